@@ -1,0 +1,10 @@
+pub mod Automaton
+pub mod Expectation
+pub mod Game
+pub mod History
+pub mod Mean
+pub mod Name
+pub mod Noise
+pub mod Path
+pub mod Tally
+pub mod Tree
