@@ -51,7 +51,7 @@ impl Game {
     }
 
     /// The payoffs r, s, t and p as unsigned numbers.
-    pub(crate) fn unsigned(&self) -> (u64, u64, u64, u64)
+    pub fn unsigned(&self) -> (u64, u64, u64, u64)
         ensures r { result.0 ≡ self.now.r }
         ensures s { result.1 ≡ self.now.s }
         ensures t { result.2 ≡ self.now.t }

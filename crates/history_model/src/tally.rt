@@ -41,22 +41,40 @@ impl Tally {
         }
     }
 
-    /// What the left player is paid in all.
+    /// What the left player is paid in all, at most 10^18.
+    pub fn left_points(&self, game: &Game) -> u128
+        requires { total self.now ≤ 10 ^ 12 }
+        ensures value { result ≡ left_points game.now self.now }
+        ensures few { result ≤ 10 ^ 18 }
+    {
+        let (r, s, t, p) = game.unsigned();
+        paid(*self, r, s, t, p)
+    }
+
+    /// What the right player is paid in all, at most 10^18.
+    pub fn right_points(&self, game: &Game) -> u128
+        requires { total self.now ≤ 10 ^ 12 }
+        ensures value { result ≡ right_points game.now self.now }
+        ensures few { result ≤ 10 ^ 18 }
+    {
+        let (r, s, t, p) = game.unsigned();
+        paid(*self, r, t, s, p)
+    }
+
+    /// The left player's score.
     pub fn left_score(&self, game: &Game) -> i128
         requires { total self.now ≤ 10 ^ 12 }
         ensures { result ≡ pos (left_points game.now self.now) }
     {
-        let (r, s, t, p) = game.unsigned();
-        paid(*self, r, s, t, p) as i128
+        self.left_points(game) as i128
     }
 
-    /// What the right player is paid in all.
+    /// The right player's score.
     pub fn right_score(&self, game: &Game) -> i128
         requires { total self.now ≤ 10 ^ 12 }
         ensures { result ≡ pos (right_points game.now self.now) }
     {
-        let (r, s, t, p) = game.unsigned();
-        paid(*self, r, t, s, p) as i128
+        self.right_points(game) as i128
     }
 }
 

@@ -1,0 +1,7 @@
+use Rattle.std.proofs.Common.{◌≡◌, map, drop, string_bytes}
+use Rattle.axlab_core.specs.Commands.{has_option}
+use Rattle.axlab_core.proofs.words.has_option.Given as goal
+
+abbrev pub invariant-loop-word : goal.invariant-loop-word
+invariant-loop-word l =
+    has_option (map (λ word. string_bytes word) l.words.items) ≡ has_option (map (λ word. string_bytes word) (drop l.word-index l.words.items))

@@ -1,0 +1,15 @@
+//! The top call of the program: it reads the words and the lab, does what they ask for, and writes
+//! the report.
+#![tactic(auto)]
+
+mod matches;
+mod report;
+mod run;
+mod status;
+mod texts;
+mod words;
+
+pub use run::axlab;
+pub use status::Status;
+pub use words::Form;
+

@@ -1,0 +1,95 @@
+//! The words of the command line.
+ghost use Rattle.std.specs.Prelude.{◌≡◌};
+ghost use Rattle.axlab_core.specs.Commands.{is_unbuilt, is_unbuilt_pair, is_option, has_option};
+ghost use Rattle.axlab_core.specs.WordList.{word_list};
+
+/// What the words ask for.
+#[derive(Clone, Copy, Debug, PartialEq, Eq)]
+pub enum Form {
+    /// `match LAB`
+    Match,
+    /// A listed form whose command isn't built yet.
+    Unbuilt,
+    /// No listed form.
+    Faulty,
+}
+
+impl Form {
+    ghost use Rattle.axlab_core.specs.Words.{form_of, listed_form};
+
+    /// The form of these words.
+    pub(crate) fn of(words: &Vec<String>) -> Form
+        ensures { result ≡ form_of (word_list words.now) }
+    {
+        if has_option(words) {
+            Form::Faulty
+        } else {
+            Form::listed(words)
+        }
+    }
+
+    // A command with a lab, or with a lab and a second file.
+    fn listed(words: &Vec<String>) -> Form
+        ensures { result ≡ listed_form (word_list words.now) }
+    {
+        match words.as_slice() {
+            [word, _] => {
+                if word.as_str() == "match" {
+                    Form::Match
+                } else if is_unbuilt(word.as_str()) {
+                    Form::Unbuilt
+                } else {
+                    Form::Faulty
+                }
+            }
+            [word, _, _] => {
+                if is_unbuilt_pair(word.as_str()) {
+                    Form::Unbuilt
+                } else {
+                    Form::Faulty
+                }
+            }
+            _ => Form::Faulty,
+        }
+    }
+}
+
+// Whether some word begins with `-`.
+fn has_option(words: &Vec<String>) -> bool
+    ensures { result ≡ has_option (word_list words.now) }
+{
+    for word in words {
+        if is_option(word.as_str()) {
+            return true;
+        }
+    }
+    false
+}
+
+fn is_option(word: &str) -> bool
+    ensures { result ≡ is_option word.now }
+{
+    match word.as_bytes() {
+        [first, ..] => *first == b'-',
+        [] => false,
+    }
+}
+
+fn is_unbuilt(word: &str) -> bool
+    ensures { result ≡ is_unbuilt word.now }
+{
+    word == "tournament"
+        || word == "rota"
+        || word == "board"
+        || word == "moran"
+        || word == "best"
+        || word == "mean"
+        || word == "certificate"
+        || word == "summary"
+}
+
+fn is_unbuilt_pair(word: &str) -> bool
+    ensures { result ≡ is_unbuilt_pair word.now }
+{
+    word == "resume" || word == "check"
+}
