@@ -23,13 +23,13 @@ pub same_front : (bytes file : List ℕ) → take 1048577 bytes ≡ file → pla
 same_front bytes file front =
     elim (cases_Bool (nat_lt 1048576 (length bytes))) [
       | inl long ↦
-      let cut : length (take 1048577 bytes) ≡ 1048577 = length-take-le 1048577 bytes (grind (arith, nat_tests)) in
-      let full : length file ≡ 1048577 = sym (ap length front) ∙ cut in
-      let long' : nat_lt 1048576 (length file) ≡ true = grind (arith, nat_tests) in
-      rw (long, long')
+          let cut : length (take 1048577 bytes) ≡ 1048577 = length-take-le 1048577 bytes (grind (arith, nat_tests)) in
+          let full : length file ≡ 1048577 = sym (ap length front) ∙ cut in
+          let long' : nat_lt 1048576 (length file) ≡ true = grind (arith, nat_tests) in
+          rw (long, long')
       | inr short ↦
-      let whole : take 1048577 bytes ≡ bytes = take_all 1048577 bytes (grind (arith, nat_tests)) in
-      ap plain_lab (sym front ∙ whole)
+          let whole : take 1048577 bytes ≡ bytes = take_all 1048577 bytes (grind (arith, nat_tests)) in
+          ap plain_lab (sym front ∙ whole)
     ]
 
 -- what the read of a held file gave stands for the file

@@ -12,4 +12,3 @@ mod words;
 pub use run::axlab;
 pub use status::Status;
 pub use words::Form;
-
