@@ -9,6 +9,8 @@ mod moves;
 mod name;
 mod noise;
 mod tally;
+#[cfg(test)]
+mod tests;
 mod whole;
 
 pub use game::Game;

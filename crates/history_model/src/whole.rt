@@ -17,7 +17,9 @@ pub struct WholePair {
     pub over: i128,
 }
 
-/// The expected scores of `n` turns, by going through all 4^`n` histories. Takes no memory.
+/// The expected scores of `n` turns, by going through all 4^`n` histories. `n` is at most 8, and the
+/// denominator of one play, to the power `n`, times (`n` + 1)·1,000,000, is below 2^126. Takes no
+/// memory.
 pub fn play_all(
     a: &Grid,
     b: &Grid,
