@@ -8,3 +8,4 @@ pub mod Noise
 pub mod Path
 pub mod Tally
 pub mod Tree
+pub mod Whole

@@ -1,7 +1,6 @@
 -- Potentials and lassos: what bounds and what attains the mean score against a sure automaton, in any number of turns.
 use Rattle.std.specs.Prelude.{ℕ, ◌≡◌, ◌≢◌, ℤ, pos, ◌+ℤ◌, ◌-ℤ◌, ◌*ℤ◌, ◌≤ℤ◌, List, [], ◌∷◌, length, Option, Some, None}
 use Rattle.history_model.specs.declared.moves.Move.{Move}
-use Rattle.history_model.specs.declared.moves.Play.{Play}
 use Rattle.history_model.specs.Game.{Payoffs, pay}
 use Rattle.history_model.specs.Automaton.{Automaton, next_row}
 use Rattle.history_model.specs.Path.{sure_move}

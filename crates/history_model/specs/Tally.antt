@@ -1,8 +1,7 @@
 -- How often each play came.
-use Rattle.std.specs.Prelude.{ℕ, ◌≡◌, ◌+◌, ◌*◌, List, [], ◌∷◌, length}
+use Rattle.std.specs.Prelude.{ℕ, ◌≡◌, ◌+◌, ◌*◌, [], ◌∷◌, length}
 use Rattle.history_model.specs.declared.moves.Move.{Move}
 use Rattle.history_model.specs.declared.moves.Move.TheVariants.{C, D}
-use Rattle.history_model.specs.declared.moves.Play.{Play}
 use Rattle.history_model.specs.declared.tally.Tally.{Tally}
 use Rattle.history_model.specs.Game.{Payoffs}
 use Rattle.history_model.specs.History.{History, turned, points}

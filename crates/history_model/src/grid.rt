@@ -51,6 +51,22 @@ impl Model for Grid {
 impl Grid {
     ghost use Rattle.history_model.specs.Automaton.{IsAutomaton, row_at, plain_row};
 
+    /// The denominator of the weights.
+    pub(crate) fn denominator(&self) -> u32
+        ensures value { result ≡ self.now.den }
+        ensures automaton { IsAutomaton self.now }
+    {
+        self.den
+    }
+
+    /// The row at which a match begins.
+    pub(crate) fn start(&self) -> u32
+        ensures value { result ≡ self.now.start }
+        ensures automaton { IsAutomaton self.now }
+    {
+        self.start
+    }
+
     /// The number of rows.
     pub fn len(&self) -> u32
         ensures value { result ≡ length self.now.rows }

@@ -4,18 +4,27 @@
 
 mod game;
 mod grid;
+mod laws;
 mod moves;
 mod name;
 mod noise;
 mod tally;
+#[cfg(test)]
+mod tests;
+mod whole;
 
 pub use game::Game;
 pub use grid::{Grid, GridRow};
+pub use laws::{
+    automata_are_weighed, counts_are_paid, histories_agree_with_rows, masses_add_up, offset_lowers,
+    path_is_one, plan_is_followed, sides_are_alike,
+};
 pub use moves::{Move, Play};
 pub use name::Name;
 pub use noise::Noise;
 use std::alloc::{AllocError, AllocFailed};
 pub use tally::Tally;
+pub use whole::{WholePair, play_all};
 
 /// Want of memory: the error of each call that has no other.
 #[derive(Clone, Copy, Debug, PartialEq, Eq)]

@@ -1,4 +1,6 @@
 //! Noise: the chance with which a move is flipped.
+
+use crate::Move;
 use std::marker::Model;
 
 /// A player's move is flipped with the chance `n`/`e`, in each turn anew: `e` is from 1 to 1000 and
@@ -22,7 +24,8 @@ impl Model for Noise {
 }
 
 impl Noise {
-    ghost use Rattle.std.specs.Prelude.{◌≡◌};
+    ghost use Rattle.std.specs.Prelude.{◌≡◌, ◌≤◌, ◌*◌};
+    ghost use Rattle.history_model.specs.Expectation.{shown};
     ghost use Rattle.history_model.specs.Noise.{FlipRate, IsFlipRate};
 
     /// The denominator, and that the chance is one.
@@ -31,5 +34,22 @@ impl Noise {
         ensures rate { IsFlipRate self.now }
     {
         self.e
+    }
+
+    /// The weight over `den`·e with which a player of weight `weight`/`den` shows a move.
+    pub(crate) fn shown(&self, den: u32, weight: u32, seen: Move) -> u64
+        requires few { den ≤ 1000 }
+        requires weighed { weight ≤ den }
+        ensures value { result ≡ shown self.now den weight seen }
+        ensures within { result ≤ den * self.now.e }
+    {
+        let flipped = self.n as u64;
+        let kept = self.e as u64 - flipped;
+        let other = (den - weight) as u64;
+        let weight = weight as u64;
+        match seen {
+            Move::C => weight * kept + other * flipped,
+            Move::D => weight * flipped + other * kept,
+        }
     }
 }
