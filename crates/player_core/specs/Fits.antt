@@ -9,25 +9,21 @@ use Rattle.player_core.specs.Sheet.{SheetData, Takes}
 abbrev pub fixed_kinds : List Kind
 fixed_kinds = MemoryOne ∷ Machine ∷ []
 
+abbrev pub kind_of_place : ℕ → Kind
+kind_of_place k = slice_index_or fixed_kinds k Plug
+
 -- the place of the first plug
 abbrev pub first_plug : ℕ
 first_plug = length fixed_kinds
 
--- at least the fixed kinds, and at most 61 plugs
-abbrev pub fewest : ℕ
-fewest = first_plug
+-- each place has its kind
+abbrev pub HaveKinds : List Lasting → Type 0
+HaveKinds players = (k : ℕ) → k < length players → (lasting_at players k).kind ≡ kind_of_place k
 
-abbrev pub most : ℕ
-most = first_plug + 61
-
-abbrev pub kind_at : ℕ → Kind
-kind_at k = slice_index_or fixed_kinds k Plug
-
--- each place has its kind, and the names of the plugs differ
-pub record IsSide (players : List Lasting) : Type 0 where
-  pub kinds : (k : ℕ) → k < length players → (lasting_at players k).kind ≡ kind_at k
-  pub names : (j k : ℕ) → first_plug ≤ j → j < k → k < length players
-      → (lasting_at players j).name ≢ (lasting_at players k).name
+-- no two plugs have one name
+abbrev pub NamesDiffer : List Lasting → Type 0
+NamesDiffer players =
+    (j k : ℕ) → first_plug ≤ j → j < k → k < length players → (lasting_at players j).name ≢ (lasting_at players k).name
 
 -- equal names and equal automata
 pub record IsTwin (left right : Lasting) : Type 0 where
@@ -38,13 +34,23 @@ pub record IsTwin (left right : Lasting) : Type 0 where
 abbrev pub AreTwins : List Lasting → List Lasting → Type 0
 AreTwins left right = (k : ℕ) → first_plug ≤ k → k < length left → IsTwin (lasting_at left k) (lasting_at right k)
 
+-- sides of one length, with the fixed kinds and at most 61 plugs
+pub record HaveLength (left right : List Lasting) : Type 0 where
+  pub some : first_plug ≤ length left
+  pub few : length left ≤ first_plug + 61
+  pub even : length right ≡ length left
+
+-- what is seen of the two sides with no look at an automaton
+pub record HaveShape (left right : List Lasting) : Type 0 where
+  pub lengths : HaveLength left right
+  pub left_kinds : HaveKinds left
+  pub right_kinds : HaveKinds right
+  pub left_names : NamesDiffer left
+  pub right_names : NamesDiffer right
+
 -- a bench fits
 pub record Fits (left right : List Lasting) : Type 0 where
-  pub some : fewest ≤ length left
-  pub few : length left ≤ most
-  pub even : length right ≡ length left
-  pub left_side : IsSide left
-  pub right_side : IsSide right
+  pub shape : HaveShape left right
   pub twins : AreTwins left right
 
 -- the kinds that a bench has a place for: for now every kind but lookup tables

@@ -2,7 +2,7 @@
 use Rattle.std.specs.Prelude.{ℕ, ◌≡◌, ◌⊎◌, ◌+◌, ◌-◌, ◌^◌, ◌<◌, List, [], ◌∷◌, length, map, fold, slice_index_or, min}
 use Rattle.history_model.specs.declared.moves.Move.{Move}
 use Rattle.history_model.specs.Automaton.{Automaton, IsAutomaton, next_row}
-use Rattle.history_model.specs.History.{History, walk}
+use Rattle.history_model.specs.History.{History}
 use Rattle.player_core.specs.declared.kind.Kind.{Kind}
 use Rattle.player_core.specs.declared.kind.Kind.TheVariants.{MemoryOne, Plug}
 
@@ -75,10 +75,3 @@ IsAtStart state = state.mark ≡ state.lasting.automaton.start
 -- every player of a side stands at its start
 abbrev pub AreAtStart : List PlayerState → Type 0
 AreAtStart states = (k : ℕ) → k < length states → IsAtStart (state_at states k)
-
--- the law: plays move the mark along the automaton, each is counted, and nothing else changes
-abbrev pub PlaysWalk : Type 0
-PlaysWalk =
-    (state : PlayerState) (history : History) → state.turns < 2 ^ 64 →
-    after_plays state history
-    ≡ record state { mark = walk state.lasting.automaton state.mark history; turns = more state.turns (length history) }

@@ -3,12 +3,17 @@
 
 mod bench;
 mod kind;
+pub mod laws;
 mod names;
+mod places;
 mod player;
+mod reading;
 mod sheet;
+mod side;
 
 pub use bench::{Bench, PlugNote};
 pub use kind::Kind;
 pub use names::no_name;
 pub use player::{Player, Seats, Side};
+pub use reading::tabulate;
 pub use sheet::Sheet;

@@ -1,0 +1,60 @@
+-- Laws of sides and benches, each proved once; a caller has one by calling the function that ensures it.
+use Rattle.std.specs.Prelude.{ℕ, ◌≡◌, ◌↔◌, ◌+◌, ◌^◌, ◌≤◌, ◌<◌, IsTrue, List, length, slice_set}
+use Rattle.history_model.specs.Automaton.{Automaton, IsSure}
+use Rattle.history_model.specs.History.{History, walk}
+use Rattle.player_core.specs.State.{PlayerState, Lasting, more, after_plays, state_at, lasting_at, lasting_of}
+use Rattle.player_core.specs.Sheet.{SheetData, Takes}
+use Rattle.player_core.specs.AutomatonOf.{loaded}
+use Rattle.player_core.specs.Fits.{Fits}
+use Rattle.player_core.specs.Bench.{IsKept, KeepsPlugs, is_sure}
+use Rattle.player_core.specs.Counts.{Grew, GrewAtLeast, Advanced, ResumedAtLeast}
+
+-- the law: plays move the mark along the automaton from where it was, each is counted, and nothing else changes
+abbrev pub PlaysWalk : Type 0
+PlaysWalk =
+    (state : PlayerState) (history : History) → state.turns < 2 ^ 64 →
+    after_plays state history
+    ≡ record state { mark = walk state.lasting.automaton state.mark history; turns = more state.turns (length history) }
+
+-- the law: one place of a bench that fits takes a sheet, at most
+abbrev pub OnePlaceTakes : Type 0
+OnePlaceTakes =
+    (left right : List Lasting) (sheet : SheetData) (j k : ℕ) → Fits left right → j < length left → k < length left →
+    Takes (lasting_at left j) sheet → Takes (lasting_at left k) sheet → j ≡ k
+
+-- the laws of a load: a player that takes the sheet keeps its kind and its name, and a plug its automaton
+abbrev pub LoadKeeps : Type 0
+LoadKeeps =
+    (state : PlayerState) (sheet : SheetData) → Takes state.lasting sheet → IsKept state.lasting (loaded state sheet).lasting
+
+-- the laws of keeping: it goes on from step to step, and a bench that fits goes on fitting
+pub record KeepingLasts : Type 0 where
+  pub none : (players : List Lasting) → KeepsPlugs players players
+  pub both : (first second third : List Lasting) → KeepsPlugs first second → KeepsPlugs second third → KeepsPlugs first third
+  pub fits : (left right left_now right_now : List Lasting) → KeepsPlugs left left_now → KeepsPlugs right right_now
+      → Fits left right → Fits left_now right_now
+
+-- the laws of a change at one place: what lasts, what is kept, and the counts
+pub record OneChange : Type 0 where
+  pub lasting : (states : List PlayerState) (k : ℕ) (state : PlayerState)
+      → lasting_of (slice_set states k state) ≡ slice_set (lasting_of states) k state.lasting
+  pub kept : (states : List PlayerState) (k : ℕ) (state : PlayerState) → IsKept (state_at states k).lasting state.lasting
+      → KeepsPlugs (lasting_of states) (lasting_of (slice_set states k state))
+  pub turns : (states : List PlayerState) (k n : ℕ) (state : PlayerState) → k < length states → (state_at states k).turns < 2 ^ 64
+      → state.turns ≡ more (state_at states k).turns n → Advanced n states (slice_set states k state)
+  pub returns : (states : List PlayerState) (k n : ℕ) (state : PlayerState) → k < length states
+      → (state_at states k).returns < 2 ^ 64 → state.returns ≡ more (state_at states k).returns n
+      → ResumedAtLeast n states (slice_set states k state)
+
+-- the laws of counts: growth adds up from step to step
+pub record CountsAddUp : Type 0 where
+  pub none : (counts : List ℕ) → Grew 0 counts counts
+  pub both : (j k : ℕ) (first second third : List ℕ) → Grew j first second → Grew k second third → Grew (j + k) first third
+  pub least : (k : ℕ) (old new : List ℕ) → Grew k old new → GrewAtLeast k old new
+  pub less : (j k : ℕ) (old new : List ℕ) → j ≤ k → GrewAtLeast k old new → GrewAtLeast j old new
+  pub least_both : (j k : ℕ) (first second third : List ℕ) → GrewAtLeast j first second → GrewAtLeast k second third
+      → GrewAtLeast (j + k) first third
+
+-- the law: the test of sureness is exact
+abbrev pub SureIsTested : Type 0
+SureIsTested = (a : Automaton) → IsTrue (is_sure a) ↔ IsSure a
