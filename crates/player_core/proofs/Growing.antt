@@ -7,6 +7,7 @@ use Rattle.player_core.specs.State.{PlayerState, more, state_at, no_state}
 use Rattle.player_core.specs.Counts.{Grew, GrewAtLeast, NoneFell, IsFull}
 use Rattle.player_core.specs.Laws.{CountsAddUp, OneChange}
 use Rattle.player_core.proofs.Keeping.{lasting_set, kept_set}
+use Rattle.player_core.proofs.Sides.{lasting_read}
 
 none_fell_both : (first second third : List ℕ) → NoneFell first second → NoneFell second third → NoneFell first third
 none_fell_both first second third h i = record {
@@ -94,8 +95,9 @@ count_set count states k n state z h fits e =
 
 pub one_change : OneChange
 one_change = record {
+  read = lasting_read;
   lasting = lasting_set;
-  kept = kept_set;
-  turns = λ states k n state h fits e. count_set (λ s. s.turns) states k n state refl h fits e;
-  returns = λ states k n state h fits e. least n _ _ (count_set (λ s. s.returns) states k n state refl h fits e);
+  kept = λ old new k state e h. rw e (kept_set old k state h);
+  turns = λ old new k n state is h fits e. rw is (count_set (λ s. s.turns) old k n state refl h fits e);
+  returns = λ old new k n state is h fits e. rw is (least n _ _ (count_set (λ s. s.returns) old k n state refl h fits e));
 }

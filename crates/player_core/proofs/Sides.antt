@@ -11,6 +11,9 @@ use Rattle.player_core.specs.Counts.{turns_of}
 pub map_read : {A B : Type 0} (f : A → B) (xs : List A) (i : ℕ) (x : A) (d : B) → i < length (map f xs) → x ≡ slice_index_or xs i x → f x ≡ slice_index_or (map f xs) i d
 map_read f xs i x d h is = ap f is ∙ sym (get_or-map f xs i x d (omega (arith, h, length-map xs f)))
 
+pub map_written : {A B : Type 0} (f : A → B) (xs : List A) (i : ℕ) (y : A) → map f (slice_set xs i y) ≡ slice_set (map f xs) i (f y)
+map_written f xs i y = map-set f xs i y
+
 -- one item is changed to y, of which f sees v of what it saw before
 pub map_changed : {A B : Type 0} (f : A → B) (xs : List A) (i : ℕ) (x y : A) (v : B → B) (d : B) → i < length (map f xs) → x ≡ slice_index_or xs i x → f y ≡ v (f x) → map f (slice_set xs i y) ≡ slice_set (map f xs) i (v (slice_index_or (map f xs) i d))
 map_changed f xs i x y v d h is e =

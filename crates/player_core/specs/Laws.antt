@@ -36,15 +36,15 @@ pub record KeepingLasts : Type 0 where
 
 -- the laws of a change at one place: what lasts, what is kept, and the counts
 pub record OneChange : Type 0 where
-  pub lasting : (states : List PlayerState) (k : ℕ) (state : PlayerState)
-      → lasting_of (slice_set states k state) ≡ slice_set (lasting_of states) k state.lasting
-  pub kept : (states : List PlayerState) (k : ℕ) (state : PlayerState) → IsKept (state_at states k).lasting state.lasting
-      → KeepsPlugs (lasting_of states) (lasting_of (slice_set states k state))
-  pub turns : (states : List PlayerState) (k n : ℕ) (state : PlayerState) → k < length states → (state_at states k).turns < 2 ^ 64
-      → state.turns ≡ more (state_at states k).turns n → Advanced n states (slice_set states k state)
-  pub returns : (states : List PlayerState) (k n : ℕ) (state : PlayerState) → k < length states
-      → (state_at states k).returns < 2 ^ 64 → state.returns ≡ more (state_at states k).returns n
-      → ResumedAtLeast n states (slice_set states k state)
+  pub read : (states : List PlayerState) (k : ℕ) → lasting_at (lasting_of states) k ≡ (state_at states k).lasting
+  pub lasting : (old : List PlayerState) (k : ℕ) (state : PlayerState)
+      → lasting_of (slice_set old k state) ≡ slice_set (lasting_of old) k state.lasting
+  pub kept : (old new : List PlayerState) (k : ℕ) (state : PlayerState) → new ≡ slice_set old k state
+      → IsKept (state_at old k).lasting state.lasting → KeepsPlugs (lasting_of old) (lasting_of new)
+  pub turns : (old new : List PlayerState) (k n : ℕ) (state : PlayerState) → new ≡ slice_set old k state → k < length old
+      → (state_at old k).turns < 2 ^ 64 → state.turns ≡ more (state_at old k).turns n → Advanced n old new
+  pub returns : (old new : List PlayerState) (k n : ℕ) (state : PlayerState) → new ≡ slice_set old k state → k < length old
+      → (state_at old k).returns < 2 ^ 64 → state.returns ≡ more (state_at old k).returns n → ResumedAtLeast n old new
 
 -- the laws of counts: growth adds up from step to step
 pub record CountsAddUp : Type 0 where

@@ -1,11 +1,14 @@
 //! The bench: two sides of players.
-ghost use Rattle.std.specs.Prelude.{◌≡◌, ◌↔◌, IsTrue, IfOk, MatchOption};
-ghost use Rattle.player_core.specs.State.{AreAtStart, lasting_of};
+ghost use Rattle.std.specs.Prelude.{◌≡◌, ◌<◌, ◌↔◌, IsTrue, IfOk, MatchOption, length, slice_set};
+ghost use Rattle.player_core.specs.State.{AreAtStart, lasting_of, state_at};
+ghost use Rattle.player_core.specs.Sheet.{Takes};
+ghost use Rattle.player_core.specs.AutomatonOf.{loaded};
 ghost use Rattle.player_core.specs.Fits.{Fits, HaveLength, HaveShape, IsPlaceOf, IsPlaceable, NoPlugNamed};
 ghost use Rattle.player_core.specs.Counts.{turns_of};
-ghost use Rattle.player_core.specs.Bench.{notes_of};
+ghost use Rattle.player_core.specs.Bench.{KeepsPlugs, notes_of};
 
-use crate::places::takes_at;
+use crate::laws::keeping_lasts;
+use crate::places::{load_place, takes_at};
 use crate::side::{FIXED_KINDS, all_twins, have_kinds, names_differ, read_notes, restart_all};
 use crate::{Seats, Sheet, Side};
 use history_model::{Name, NoMemory};
@@ -90,6 +93,23 @@ impl Bench {
             }
         }
         None
+    }
+
+    /// Gives a sheet to the left player at its place, and one to the right player at its place. All
+    /// other players stay as they are, and the bench goes on fitting.
+    pub fn load(&mut self, i: usize, left: &Sheet, j: usize, right: &Sheet)
+        requires fits { Fits (lasting_of (⟦<Side as Seats>⟧.seats self.old.left)) (lasting_of (⟦<Side as Seats>⟧.seats self.old.right)) }
+        requires left { IsPlaceOf (lasting_of (⟦<Side as Seats>⟧.seats self.old.left)) (lasting_of (⟦<Side as Seats>⟧.seats self.old.right)) left.now i }
+        requires right { IsPlaceOf (lasting_of (⟦<Side as Seats>⟧.seats self.old.left)) (lasting_of (⟦<Side as Seats>⟧.seats self.old.right)) right.now j }
+        ensures fits { Fits (lasting_of (⟦<Side as Seats>⟧.seats self.new.left)) (lasting_of (⟦<Side as Seats>⟧.seats self.new.right)) }
+        ensures left { ⟦<Side as Seats>⟧.seats self.new.left ≡ slice_set (⟦<Side as Seats>⟧.seats self.old.left) i (loaded (state_at (⟦<Side as Seats>⟧.seats self.old.left) i) left.now) }
+        ensures right { ⟦<Side as Seats>⟧.seats self.new.right ≡ slice_set (⟦<Side as Seats>⟧.seats self.old.right) j (loaded (state_at (⟦<Side as Seats>⟧.seats self.old.right) j) right.now) }
+        ensures left_kept { KeepsPlugs (lasting_of (⟦<Side as Seats>⟧.seats self.old.left)) (lasting_of (⟦<Side as Seats>⟧.seats self.new.left)) }
+        ensures right_kept { KeepsPlugs (lasting_of (⟦<Side as Seats>⟧.seats self.old.right)) (lasting_of (⟦<Side as Seats>⟧.seats self.new.right)) }
+    {
+        keeping_lasts();
+        load_place(&mut self.left, i, left);
+        load_place(&mut self.right, j, right);
     }
 
     /// A note of each plug, in order of place, of a bench that fits. No advance is made. Kinds, names

@@ -14,6 +14,7 @@ mod side;
 pub use bench::{Bench, PlugNote};
 pub use kind::Kind;
 pub use names::no_name;
+pub use places::{load_place, restart};
 pub use player::{Player, Seats, Side};
 pub use reading::tabulate;
 pub use sheet::Sheet;

@@ -3,7 +3,9 @@ ghost use Rattle.std.specs.Prelude.{◌≡◌, ◌<◌, ◌↔◌, IsTrue, lengt
 ghost use Rattle.player_core.specs.State.{IsState, at_start, state_at, lasting_at, lasting_of};
 ghost use Rattle.player_core.specs.Sheet.{Takes};
 ghost use Rattle.player_core.specs.AutomatonOf.{loaded};
+ghost use Rattle.player_core.specs.Bench.{KeepsPlugs};
 
+use crate::laws::{load_keeps, one_change};
 use crate::{Kind, Player, Seats, Sheet, Side};
 use history_model::Name;
 
@@ -23,13 +25,25 @@ fn load(player: &mut Box<dyn Player>, sheet: &Sheet)
     player.load(sheet);
 }
 
-/// Gives a sheet to the player at a place, which takes it.
-pub fn load_place(players: &mut Side, k: usize, sheet: &Sheet)
+#[tactic(auto, using(crate::proofs::Sides::map_read, crate::proofs::Sides::map_written, crate::proofs::Sides::lasting_read))]
+fn load_at(players: &mut Side, k: usize, sheet: &Sheet)
     requires inside { k < length (⟦<Side as Seats>⟧.seats players.old) }
-    requires takes { Takes (state_at (⟦<Side as Seats>⟧.seats players.old) k).lasting sheet.now }
+    requires takes { Takes (lasting_at (lasting_of (⟦<Side as Seats>⟧.seats players.old)) k) sheet.now }
     ensures { ⟦<Side as Seats>⟧.seats players.new ≡ slice_set (⟦<Side as Seats>⟧.seats players.old) k (loaded (state_at (⟦<Side as Seats>⟧.seats players.old) k) sheet.now) }
 {
     load(&mut players[k], sheet);
+}
+
+/// Gives a sheet to the player at a place, which takes it. All other players stay as they are.
+pub fn load_place(players: &mut Side, k: usize, sheet: &Sheet)
+    requires inside { k < length (⟦<Side as Seats>⟧.seats players.old) }
+    requires takes { Takes (lasting_at (lasting_of (⟦<Side as Seats>⟧.seats players.old)) k) sheet.now }
+    ensures states { ⟦<Side as Seats>⟧.seats players.new ≡ slice_set (⟦<Side as Seats>⟧.seats players.old) k (loaded (state_at (⟦<Side as Seats>⟧.seats players.old) k) sheet.now) }
+    ensures kept { KeepsPlugs (lasting_of (⟦<Side as Seats>⟧.seats players.old)) (lasting_of (⟦<Side as Seats>⟧.seats players.new)) }
+{
+    one_change();
+    load_keeps();
+    load_at(players, k, sheet);
 }
 
 fn kind_of(player: &Box<dyn Player>) -> Kind
