@@ -37,7 +37,7 @@ none_takes left right sheet k fits known whole none =
     }
 
 -- the place of a plug is behind the fixed kinds
-plug_behind : (k : ℕ) → kind_of_place k ≡ Plug → first_plug ≤ k
+pub plug_behind : (k : ℕ) → kind_of_place k ≡ Plug → first_plug ≤ k
 plug_behind zero e = cc
 plug_behind (suc zero) e = cc
 plug_behind (suc (suc k)) e = omega arith

@@ -5,9 +5,9 @@ use Rattle.player_core.specs.declared.kind.Kind.{Kind}
 use Rattle.player_core.specs.declared.kind.Kind.TheVariants.{Plug}
 use Rattle.history_model.specs.Automaton.{Automaton}
 use Rattle.player_core.specs.State.{PlayerState, Lasting, lasting_at, lasting_of, state_at}
-use Rattle.player_core.specs.Sheet.{SheetData}
+use Rattle.player_core.specs.Sheet.{SheetData, Takes}
 use Rattle.player_core.specs.AutomatonOf.{automaton_by}
-use Rattle.player_core.specs.Fits.{Fits, HaveKinds, NamesDiffer, first_plug}
+use Rattle.player_core.specs.Fits.{Fits, IsPlaceOf, HaveKinds, NamesDiffer, first_plug}
 use Rattle.player_core.specs.Bench.{IsKept, KeepsPlugs}
 use Rattle.player_core.specs.Laws.{KeepingLasts, LoadKeeps}
 use Rattle.player_core.proofs.Fitting.{plug_of_place}
@@ -43,7 +43,7 @@ names_kept old new h names j k low less lt e =
     names j k low less inside (sym (h.places j (omega arith)).name ∙ e ∙ (h.places k inside).name)
 
 -- a plug of a side that fits keeps its automaton
-plug_kept : (old new : List Lasting) → KeepsPlugs old new → HaveKinds old → (k : ℕ) → first_plug ≤ k → k < length old → (lasting_at new k).automaton ≡ (lasting_at old k).automaton
+pub plug_kept : (old new : List Lasting) → KeepsPlugs old new → HaveKinds old → (k : ℕ) → first_plug ≤ k → k < length old → (lasting_at new k).automaton ≡ (lasting_at old k).automaton
 plug_kept old new h kinds k low lt = (h.places k lt).automaton (kinds k lt ∙ plug_of_place k low)
 
 fits : (left right left_now right_now : List Lasting) → KeepsPlugs left left_now → KeepsPlugs right right_now → Fits left right → Fits left_now right_now
@@ -71,8 +71,19 @@ fits left right left_now right_now hl hr f =
           };
     }
 
+takes_kept : (old new : Lasting) (sheet : SheetData) → IsKept old new → Takes old sheet → Takes new sheet
+takes_kept old new sheet h t = record { kind = h.kind ∙ t.kind; name = λ plug. h.name ∙ t.name plug }
+
+place : (left right left_now right_now : List Lasting) (sheet : SheetData) (k : ℕ) → KeepsPlugs left left_now → KeepsPlugs right right_now → IsPlaceOf left right sheet k → IsPlaceOf left_now right_now sheet k
+place left right left_now right_now sheet k hl hr p = record {
+  left_inside = omega (arith, p.left_inside, hl.length_is);
+  right_inside = omega (arith, p.right_inside, hr.length_is);
+  left_takes = takes_kept _ _ sheet (hl.places k p.left_inside) p.left_takes;
+  right_takes = takes_kept _ _ sheet (hr.places k p.right_inside) p.right_takes;
+}
+
 pub keeping_lasts : KeepingLasts
-keeping_lasts = record { none = none; both = both; fits = fits }
+keeping_lasts = record { none = none; both = both; fits = fits; place = place }
 
 plug_keeps : (kind : Kind) (sheet : SheetData) (own : Automaton) → kind ≡ Plug → automaton_by kind sheet own ≡ own
 plug_keeps kind sheet own e = rw e refl

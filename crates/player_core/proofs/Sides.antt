@@ -4,8 +4,9 @@ use Rattle.std.proofs.lemmas.List.{map-set, get_or-map, length-map}
 use Rattle.std.proofs.lemmas.List.Edits.{map_over_more}
 use Rattle.std.proofs.Math.ListN as listn
 use Rattle.std.proofs.Math.Seq.{map-set_same}
-use Rattle.player_core.specs.State.{PlayerState, IsAtStart, AreAtStart, at_start, lasting_of, lasting_at, state_at, no_state}
+use Rattle.player_core.specs.State.{PlayerState, IsAtStart, at_start, lasting_of, lasting_at, state_at, no_state}
 use Rattle.player_core.specs.Counts.{turns_of}
+use Rattle.player_core.specs.Bench.{IsRestarted}
 
 -- what f sees at a place, from the item there
 pub map_read : {A B : Type 0} (f : A → B) (xs : List A) (i : ℕ) (x : A) (d : B) → i < length (map f xs) → x ≡ slice_index_or xs i x → f x ≡ slice_index_or (map f xs) i d
@@ -50,12 +51,6 @@ lasting_read states k = listn.get_or-map (λ state. state.lasting) states k no_s
 map_unseen : {B C : Type 0} (v : B → B) (w : B → C) (bs : List B) → ((b : B) → w (v b) ≡ w b) → map w (map v bs) ≡ map w bs
 map_unseen v w [] h = refl
 map_unseen v w (b ∷ bs) h = ap (λ t. t ∷ map w (map v bs)) (h b) ∙ ap (λ t. w b ∷ t) (map_unseen v w bs h)
-
--- what a side is once every player was resumed at its start
-pub record IsRestarted (old new : List PlayerState) : Type 0 where
-  pub lasting : lasting_of new ≡ lasting_of old
-  pub turns : turns_of new ≡ turns_of old
-  pub starts : AreAtStart new
 
 start_at : (old : List PlayerState) (k : ℕ) → k < length (map at_start old) → IsAtStart (state_at (map at_start old) k)
 start_at old k h =

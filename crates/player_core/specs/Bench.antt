@@ -4,8 +4,9 @@ use Rattle.std.specs.List.{list_all}
 use Rattle.history_model.specs.Automaton.{Automaton}
 use Rattle.player_core.specs.declared.kind.Kind.TheVariants.{Plug}
 use Rattle.player_core.specs.declared.bench.PlugNote.{PlugNote}
-use Rattle.player_core.specs.State.{Lasting, lasting_at}
+use Rattle.player_core.specs.State.{PlayerState, Lasting, AreAtStart, lasting_at, lasting_of}
 use Rattle.player_core.specs.Fits.{first_plug}
+use Rattle.player_core.specs.Counts.{turns_of}
 
 -- a player later on: of the same kind and name, and a plug has the same automaton
 pub record IsKept (old new : Lasting) : Type 0 where
@@ -17,6 +18,12 @@ pub record IsKept (old new : Lasting) : Type 0 where
 pub record KeepsPlugs (old new : List Lasting) : Type 0 where
   pub length_is : length new ≡ length old
   pub places : (k : ℕ) → k < length old → IsKept (lasting_at old k) (lasting_at new k)
+
+-- a side after each player was resumed at its start
+pub record IsRestarted (old new : List PlayerState) : Type 0 where
+  pub lasting : lasting_of new ≡ lasting_of old
+  pub turns : turns_of new ≡ turns_of old
+  pub starts : AreAtStart new
 
 -- whether every weight is 0 or the denominator
 abbrev pub is_sure : Automaton → Bool

@@ -64,6 +64,7 @@ pub record NoPlugNamed (left : List Lasting) (sheet : SheetData) : Type 0 where
 
 -- the players of a place take the sheet on both sides
 pub record IsPlaceOf (left right : List Lasting) (sheet : SheetData) (k : ℕ) : Type 0 where
-  pub inside : k < length left
+  pub left_inside : k < length left
+  pub right_inside : k < length right
   pub left_takes : Takes (lasting_at left k) sheet
   pub right_takes : Takes (lasting_at right k) sheet

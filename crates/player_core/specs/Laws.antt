@@ -4,8 +4,9 @@ use Rattle.history_model.specs.Automaton.{Automaton, IsSure}
 use Rattle.history_model.specs.History.{History, walk}
 use Rattle.player_core.specs.State.{PlayerState, Lasting, more, after_plays, state_at, lasting_at, lasting_of}
 use Rattle.player_core.specs.Sheet.{SheetData, Takes}
-use Rattle.player_core.specs.AutomatonOf.{loaded}
-use Rattle.player_core.specs.Fits.{Fits}
+use Rattle.player_core.specs.AutomatonOf.{automaton_of, loaded}
+use Rattle.player_core.specs.Fits.{Fits, IsPlaceable, IsPlaceOf}
+use Rattle.player_core.specs.Entry.{entry_automaton}
 use Rattle.player_core.specs.Bench.{IsKept, KeepsPlugs, is_sure}
 use Rattle.player_core.specs.Counts.{Grew, GrewAtLeast, Advanced, ResumedAtLeast}
 
@@ -27,12 +28,23 @@ abbrev pub LoadKeeps : Type 0
 LoadKeeps =
     (state : PlayerState) (sheet : SheetData) → Takes state.lasting sheet → IsKept state.lasting (loaded state sheet).lasting
 
--- the laws of keeping: it goes on from step to step, and a bench that fits goes on fitting
+-- the laws of keeping: it goes on from step to step; a bench that fits goes on fitting, and a place goes on taking its sheet
 pub record KeepingLasts : Type 0 where
   pub none : (players : List Lasting) → KeepsPlugs players players
   pub both : (first second third : List Lasting) → KeepsPlugs first second → KeepsPlugs second third → KeepsPlugs first third
   pub fits : (left right left_now right_now : List Lasting) → KeepsPlugs left left_now → KeepsPlugs right right_now
       → Fits left right → Fits left_now right_now
+  pub place : (left right left_now right_now : List Lasting) (sheet : SheetData) (k : ℕ) → KeepsPlugs left left_now
+      → KeepsPlugs right right_now → IsPlaceOf left right sheet k → IsPlaceOf left_now right_now sheet k
+
+-- the laws of what a sheet plays on a bench that fits: it stays, and each side's player that takes the sheet plays it from then on
+pub record EntriesPlay : Type 0 where
+  pub kept : (left right left_now : List Lasting) (sheet : SheetData) → Fits left right → KeepsPlugs left left_now →
+      entry_automaton left_now sheet ≡ entry_automaton left sheet
+  pub left : (left right : List Lasting) (sheet : SheetData) (k : ℕ) → Fits left right → IsPlaceable sheet.kind
+      → IsPlaceOf left right sheet k → automaton_of sheet (lasting_at left k).automaton ≡ entry_automaton left sheet
+  pub right : (left right : List Lasting) (sheet : SheetData) (k : ℕ) → Fits left right → IsPlaceable sheet.kind
+      → IsPlaceOf left right sheet k → automaton_of sheet (lasting_at right k).automaton ≡ entry_automaton left sheet
 
 -- the laws of a change at one place: what lasts, what is kept, and the counts
 pub record OneChange : Type 0 where

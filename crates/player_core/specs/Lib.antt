@@ -1,6 +1,7 @@
 pub mod AutomatonOf
 pub mod Bench
 pub mod Counts
+pub mod Entry
 pub mod Fits
 pub mod Laws
 pub mod Rule

@@ -5,7 +5,7 @@ ghost use Rattle.player_core.specs.Sheet.{Takes};
 ghost use Rattle.player_core.specs.AutomatonOf.{loaded};
 ghost use Rattle.player_core.specs.Fits.{Fits, HaveLength, HaveShape, IsPlaceOf, IsPlaceable, NoPlugNamed};
 ghost use Rattle.player_core.specs.Counts.{turns_of};
-ghost use Rattle.player_core.specs.Bench.{KeepsPlugs, notes_of};
+ghost use Rattle.player_core.specs.Bench.{IsRestarted, KeepsPlugs, notes_of};
 
 use crate::laws::keeping_lasts;
 use crate::places::{load_place, takes_at};
@@ -65,6 +65,15 @@ impl Bench {
         names_differ(&self.right)
     }
 
+    // Resumes every player at its start.
+    fn restart(&mut self)
+        ensures left { IsRestarted (⟦<Side as Seats>⟧.seats self.old.left) (⟦<Side as Seats>⟧.seats self.new.left) }
+        ensures right { IsRestarted (⟦<Side as Seats>⟧.seats self.old.right) (⟦<Side as Seats>⟧.seats self.new.right) }
+    {
+        restart_all(&mut self.left);
+        restart_all(&mut self.right);
+    }
+
     /// Whether the bench fits. The automata are compared by resuming each mark, so the counts may
     /// rise. Kinds, names and automata stay, and every mark ends at its start. It takes no memory.
     pub fn fits(&mut self) -> bool
@@ -75,8 +84,7 @@ impl Bench {
         ensures right_starts { AreAtStart (⟦<Side as Seats>⟧.seats self.new.right) }
     {
         let answer = self.have_shape() && all_twins(&mut self.left, &mut self.right);
-        restart_all(&mut self.left);
-        restart_all(&mut self.right);
+        self.restart();
         answer
     }
 
@@ -129,8 +137,7 @@ impl Bench {
         ensures right_starts { AreAtStart (⟦<Side as Seats>⟧.seats self.new.right) }
     {
         let found = read_notes(alloc, &mut self.left);
-        restart_all(&mut self.left);
-        restart_all(&mut self.right);
+        self.restart();
         found
     }
 }

@@ -1,5 +1,5 @@
 //! Laws, proved once. A caller has a law by calling its function, which does nothing.
-ghost use Rattle.player_core.specs.Laws.{CountsAddUp, KeepingLasts, LoadKeeps, OneChange, OnePlaceTakes, PlaysWalk, SureIsTested};
+ghost use Rattle.player_core.specs.Laws.{CountsAddUp, EntriesPlay, KeepingLasts, LoadKeeps, OneChange, OnePlaceTakes, PlaysWalk, SureIsTested};
 
 /// Plays move a player's mark along its automaton from where it was.
 pub fn plays_walk()
@@ -34,4 +34,9 @@ pub fn counts_add_up()
 /// The test of sureness is exact.
 pub fn sure_is_tested()
     ensures { SureIsTested }
+{}
+
+/// On a bench that fits, each side's player that takes a sheet plays what the sheet plays.
+pub fn entries_play()
+    ensures { EntriesPlay }
 {}

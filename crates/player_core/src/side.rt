@@ -1,6 +1,6 @@
 //! One side of a bench.
 ghost use Rattle.std.specs.Prelude.{◌≡◌, ◌<◌, ◌↔◌, IsTrue, IfOk, length, map};
-ghost use Rattle.player_core.specs.State.{AreAtStart, at_start, lasting_at, lasting_of};
+ghost use Rattle.player_core.specs.State.{at_start, lasting_at, lasting_of};
 ghost use Rattle.player_core.specs.Sheet.{Takes};
 ghost use Rattle.player_core.specs.Fits.{AreTwins, HaveKinds, IsTwin, NamesDiffer, kind_of_place};
 ghost use Rattle.player_core.specs.Counts.{turns_of};
@@ -27,21 +27,13 @@ fn kind_of_place(k: usize) -> Kind
     }
 }
 
-fn restart_each(players: &mut Side)
+/// Resumes every player of a side at its start.
+pub fn restart_all(players: &mut Side)
     ensures { ⟦<Side as Seats>⟧.seats players.new ≡ map at_start (⟦<Side as Seats>⟧.seats players.old) }
 {
     for k in 0..players.len() {
         restart(&mut players[k]);
     }
-}
-
-/// Resumes every player of a side at its start.
-pub fn restart_all(players: &mut Side)
-    ensures lasting { lasting_of (⟦<Side as Seats>⟧.seats players.new) ≡ lasting_of (⟦<Side as Seats>⟧.seats players.old) }
-    ensures turns { turns_of (⟦<Side as Seats>⟧.seats players.new) ≡ turns_of (⟦<Side as Seats>⟧.seats players.old) }
-    ensures starts { AreAtStart (⟦<Side as Seats>⟧.seats players.new) }
-{
-    restart_each(players);
 }
 
 /// Whether each place has its kind.

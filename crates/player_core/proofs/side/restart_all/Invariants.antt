@@ -1,6 +1,6 @@
 use Rattle.std.proofs.Common.{map}
 use Rattle.player_core.proofs.Loops.{RestartedSoFar}
-use Rattle.player_core.proofs.side.restart_each.Given as goal
+use Rattle.player_core.proofs.side.restart_all.Given as goal
 
 abbrev pub invariant-loop-k : goal.invariant-loop-k
 invariant-loop-k g l =
