@@ -1,0 +1,11 @@
+use Rattle.std.proofs.Common.{map}
+use Rattle.player_core.proofs.Loops.{RestartedSoFar}
+use Rattle.player_core.proofs.side.restart_all.Given as goal
+
+abbrev pub invariant-loop-k : goal.invariant-loop-k
+invariant-loop-k g l =
+    RestartedSoFar
+    (map (λ p. (goal.Player-dyn g (p.vtable, p.value)).state p.value) l.initial.players.items)
+    (map (λ p. (goal.Player-dyn g (p.vtable, p.value)).state p.value) l.players.items)
+    l.k
+    l.k-end

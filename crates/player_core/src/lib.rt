@@ -1,0 +1,20 @@
+//! Players in boxes: the sheets that they take, what their calls do, and the bench they sit at.
+#![tactic(auto)]
+
+mod bench;
+mod kind;
+pub mod laws;
+mod names;
+mod places;
+mod player;
+mod reading;
+mod sheet;
+mod side;
+
+pub use bench::{Bench, PlugNote};
+pub use kind::Kind;
+pub use names::no_name;
+pub use places::{load_place, restart};
+pub use player::{Player, Seats, Side};
+pub use reading::tabulate;
+pub use sheet::Sheet;
