@@ -1,0 +1,78 @@
+-- A player of a side takes a sheet, and then plays a match.
+use Rattle.std.proofs.Common.{◌≡◌, ℕ, ◌+◌, ◌-◌, ◌^◌, ◌<◌, List, length, map, slice_set, sym, ◌∙◌, ap, subst, arith, refl, get_or-set_same, length-set}
+use Rattle.std.proofs.lemmas.List.{length-map}
+use Rattle.history_model.specs.declared.tally.Tally.{Tally}
+use Rattle.history_model.specs.Automaton.{Automaton, IsSure}
+use Rattle.history_model.specs.History.{History}
+use Rattle.history_model.specs.Path.{match_path}
+use Rattle.history_model.specs.Tally.{counts, total, CountsArePaid}
+use Rattle.player_core.specs.State.{PlayerState, Lasting, IsState, more, state_at, lasting_at, lasting_of}
+use Rattle.player_core.specs.Sheet.{SheetData}
+use Rattle.player_core.specs.AutomatonOf.{automaton_of, loaded}
+use Rattle.player_core.specs.Bench.{KeepsPlugs}
+use Rattle.player_core.specs.Counts.{Advanced, Grew, turns_of}
+use Rattle.player_core.specs.Laws.{CountsAddUp, KeepingLasts, OneChange}
+
+pub record SideMoved (old mid new : List PlayerState) (k turns : ℕ) (sheet : SheetData) (after : PlayerState) : Type 0 where
+  pub inside : k < length old
+  pub load : mid ≡ slice_set old k (loaded (state_at old k) sheet)
+  pub kept : KeepsPlugs (lasting_of old) (lasting_of mid)
+  pub played : new ≡ slice_set mid k after
+  pub lasting : after.lasting ≡ (state_at mid k).lasting
+  pub counted : after.turns ≡ more (state_at mid k).turns turns
+  pub valid : IsState (state_at mid k)
+
+pub inside_states : (states : List PlayerState) (k : ℕ) → k < length (lasting_of states) → k < length states
+inside_states states k h = omega (arith, h, length-map states (λ (state : PlayerState). state.lasting))
+
+pub loaded_there : (old mid : List PlayerState) (k : ℕ) (sheet : SheetData) → k < length old → mid ≡ slice_set old k (loaded (state_at old k) sheet)
+    → state_at mid k ≡ loaded (state_at old k) sheet
+loaded_there old mid k sheet inside load = rw load (get_or-set_same old k (loaded (state_at old k) sheet) _ inside)
+
+-- the automaton of the player that has taken the sheet
+pub loaded_plays : OneChange → (old mid : List PlayerState) (k : ℕ) (sheet : SheetData) → k < length old → mid ≡ slice_set old k (loaded (state_at old k) sheet)
+    → (state_at mid k).lasting.automaton ≡ automaton_of sheet (lasting_at (lasting_of old) k).automaton
+loaded_plays change old mid k sheet inside load =
+    ap (λ (s : PlayerState). s.lasting.automaton) (loaded_there old mid k sheet inside load)
+    ∙ ap (λ (a : Automaton). automaton_of sheet a) (sym (ap (λ l. l.automaton) (change.read old k)))
+
+pub is_sure_too : (a b : Automaton) → b ≡ a → IsSure a → IsSure b
+is_sure_too a b e h = let P : Automaton → Type 0 = λ x. IsSure x in subst P (sym e) h
+
+pub same_tally : (a a' b b' : Automaton) (n : ℕ) (tally : Tally) → a ≡ a' → b ≡ b' → tally ≡ counts (match_path a b n) → tally ≡ counts (match_path a' b' n)
+same_tally a a' b b' n tally ea eb e = e ∙ ap (λ x. counts (match_path x b n)) ea ∙ ap (λ y. counts (match_path a' y n)) eb
+
+pub as_long : CountsArePaid → (tally : Tally) (history : History) (n : ℕ) → tally ≡ counts history → total tally ≡ n → length history ≡ n
+as_long paid tally history n e whole =
+    sym (paid (record { r = 0; s = 0; t = 0; p = 0 }) history).turns ∙ sym (ap total e) ∙ whole
+
+pub side_kept : KeepingLasts → OneChange → (old mid new : List PlayerState) (k turns : ℕ) (sheet : SheetData) (after : PlayerState)
+    → SideMoved old mid new k turns sheet after → KeepsPlugs (lasting_of old) (lasting_of new)
+side_kept keeping change old mid new k turns sheet after moved =
+    let automaton : after.lasting.automaton ≡ (state_at mid k).lasting.automaton = ap (λ (l : Lasting). l.automaton) moved.lasting in
+    keeping.both (lasting_of old) (lasting_of mid) (lasting_of new) moved.kept
+    (change.kept mid new k after moved.played (record {
+      kind = ap (λ (l : Lasting). l.kind) moved.lasting;
+      name = ap (λ (l : Lasting). l.name) moved.lasting;
+      automaton = λ _. automaton;
+    }))
+
+more_none : (n : ℕ) → n < 2 ^ 64 → n ≡ more n 0
+more_none n fits = omega (arith, fits)
+
+pub side_advanced : OneChange → CountsAddUp → (old mid new : List PlayerState) (k turns : ℕ) (sheet : SheetData) (after : PlayerState)
+    → SideMoved old mid new k turns sheet after → Advanced turns old new
+side_advanced change adding old mid new k turns sheet after moved =
+    let there = loaded_there old mid k sheet moved.inside moved.load in
+    let same : (state_at mid k).turns ≡ (state_at old k).turns = ap (λ (s : PlayerState). s.turns) there in
+    let fits : (state_at old k).turns < 2 ^ 64 = omega (arith, same, moved.valid.turns_fit) in
+    let inside : k < length mid = let e : length mid ≡ length old = ap length moved.load ∙ length-set old k _ in omega (arith, e, moved.inside) in
+    let first = change.turns old mid k 0 (loaded (state_at old k) sheet) moved.load moved.inside fits (more_none (state_at old k).turns fits) in
+    let second = change.turns mid new k turns after moved.played inside moved.valid.turns_fit moved.counted in
+    let none : 0 + turns ≡ turns = omega arith in
+    let P : ℕ → Type 0 = λ n. Advanced n old new in
+    subst P none (adding.both 0 turns (turns_of old) (turns_of mid) (turns_of new) first second)
+
+-- the turns of a match are counted
+pub counted_on : (count turns : ℕ) (history : History) → length history ≡ turns → more count (length history) ≡ more count turns
+counted_on count turns history long = ap (λ n. more count n) long

@@ -1,0 +1,75 @@
+use Rattle.std.proofs.Common.{◌∙◌, refl}
+use Rattle.std.proofs.lemmas.List.{length-map}
+use Rattle.match_play.proofs.Moving.{inside_states, counted_on, loaded_plays, is_sure_too, same_tally, as_long, side_kept, side_advanced}
+use Rattle.match_play.proofs.on_bench.play_sheets.Goals as goal
+
+pub play_at-requires-clause-sure_left : goal.play_at-requires-clause-sure_left
+play_at-requires-clause-sure_left g c =
+    is_sure_too _ _
+    (loaded_plays c.one_change.ensures _ _ _ c.args.left.now (inside_states _ _ c.place_of-i.ensures.left_inside) c.load.ensures.left
+    ∙ c.entries_play.ensures.left _ _ _ _ c.requires.fits c.requires.left_known.placeable c.place_of-i.ensures)
+    c.requires.sure_left
+
+pub play_at-requires-clause-sure_right : goal.play_at-requires-clause-sure_right
+play_at-requires-clause-sure_right g c =
+    is_sure_too _ _
+    (loaded_plays c.one_change.ensures _ _ _ c.args.right.now (inside_states _ _ c.place_of-j.ensures.right_inside) c.load.ensures.right
+    ∙ c.entries_play.ensures.right _ _ _ _ c.requires.fits c.requires.right_known.placeable c.place_of-j.ensures)
+    c.requires.sure_right
+
+pub returns-clause-tally : goal.returns-clause-tally
+returns-clause-tally g c =
+    same_tally _ _ _ _ _ _
+    (loaded_plays c.one_change.ensures _ _ _ c.args.left.now (inside_states _ _ c.place_of-i.ensures.left_inside) c.load.ensures.left
+    ∙ c.entries_play.ensures.left _ _ _ _ c.requires.fits c.requires.left_known.placeable c.place_of-i.ensures)
+    (loaded_plays c.one_change.ensures _ _ _ c.args.right.now (inside_states _ _ c.place_of-j.ensures.right_inside) c.load.ensures.right
+    ∙ c.entries_play.ensures.right _ _ _ _ c.requires.fits c.requires.right_known.placeable c.place_of-j.ensures)
+    c.play_at.ensures.tally
+
+pub returns-clause-left_kept : goal.returns-clause-left_kept
+returns-clause-left_kept g c = side_kept c.keeping_lasts.ensures c.one_change.ensures _ _ _ _ _ c.args.left.now _ (record {
+  inside = inside_states _ _ c.place_of-i.ensures.left_inside;
+  load = c.load.ensures.left;
+  kept = c.load.ensures.left_kept;
+  played = c.play_at.ensures.left;
+  lasting = refl;
+  counted = counted_on _ _ _ (as_long c.counts_are_paid.ensures _ _ _ c.play_at.ensures.tally c.play_at.ensures.total);
+  valid = c.play_at.ensures.left_valid;
+})
+
+pub returns-clause-left_advanced : goal.returns-clause-left_advanced
+returns-clause-left_advanced g c = side_advanced c.one_change.ensures c.counts_add_up.ensures _ _ _ _ _ c.args.left.now _ (record {
+  inside = inside_states _ _ c.place_of-i.ensures.left_inside;
+  load = c.load.ensures.left;
+  kept = c.load.ensures.left_kept;
+  played = c.play_at.ensures.left;
+  lasting = refl;
+  counted = counted_on _ _ _ (as_long c.counts_are_paid.ensures _ _ _ c.play_at.ensures.tally c.play_at.ensures.total);
+  valid = c.play_at.ensures.left_valid;
+})
+
+pub returns-clause-right_kept : goal.returns-clause-right_kept
+returns-clause-right_kept g c = side_kept c.keeping_lasts.ensures c.one_change.ensures _ _ _ _ _ c.args.right.now _ (record {
+  inside = inside_states _ _ c.place_of-j.ensures.right_inside;
+  load = c.load.ensures.right;
+  kept = c.load.ensures.right_kept;
+  played = c.play_at.ensures.right;
+  lasting = refl;
+  counted = counted_on _ _ _ (length-map _ _ ∙ as_long c.counts_are_paid.ensures _ _ _ c.play_at.ensures.tally c.play_at.ensures.total);
+  valid = c.play_at.ensures.right_valid;
+})
+
+pub returns-clause-right_advanced : goal.returns-clause-right_advanced
+returns-clause-right_advanced g c = side_advanced c.one_change.ensures c.counts_add_up.ensures _ _ _ _ _ c.args.right.now _ (record {
+  inside = inside_states _ _ c.place_of-j.ensures.right_inside;
+  load = c.load.ensures.right;
+  kept = c.load.ensures.right_kept;
+  played = c.play_at.ensures.right;
+  lasting = refl;
+  counted = counted_on _ _ _ (length-map _ _ ∙ as_long c.counts_are_paid.ensures _ _ _ c.play_at.ensures.tally c.play_at.ensures.total);
+  valid = c.play_at.ensures.right_valid;
+})
+
+pub returns-clause-fits : goal.returns-clause-fits
+returns-clause-fits g c =
+    c.keeping_lasts.ensures.fits _ _ _ _ (returns-clause-left_kept g c) (returns-clause-right_kept g c) c.requires.fits
