@@ -1,4 +1,5 @@
--- The built-in players: their names, their automata, and their rules on histories (after the Axelrod library).
+-- The built-in players: their names (after the Axelrod library), their automata, and their rules on histories.
+-- Tit For Tat and Tit For Two Tats: Axelrod 1984. Win-Stay Lose-Shift: Nowak and Sigmund 1993. Grudger: Friedman 1971.
 use Rattle.std.specs.Prelude.{ℕ, ◌≡◌, Bool, true, false, if◌then◌else◌, List, [], ◌∷◌, codes}
 use Rattle.std.specs.List.{list_any}
 use Rattle.history_model.specs.declared.moves.Move.{Move}

@@ -5,20 +5,21 @@ ghost use Rattle.plug_players.specs.Builtin.{builtin_name, builtin_rows};
 
 use history_model::{GridRow, Name};
 
-/// Strategies after the Axelrod library. Each is sure, and looks at the plays alone.
+/// Strategies of the field, under the names of the Axelrod library. Each is sure: no move is drawn
+/// by chance.
 #[derive(Clone, Copy, Debug, PartialEq, Eq)]
 pub enum Builtin {
     /// Always C.
     Cooperator,
     /// Always D.
     Defector,
-    /// C first, then the other's last move.
+    /// C first, then the other's last move (Axelrod 1984).
     TitForTat,
-    /// D exactly where the other's last two moves are both D.
+    /// D exactly where the other's last two moves are both D (Axelrod 1984).
     TitForTwoTats,
-    /// D exactly where some move of the other is D.
+    /// D exactly where some move of the other is D (Friedman 1971).
     Grudger,
-    /// C first, then C exactly where the last play was CC or DD.
+    /// C first, then C exactly where the last play was CC or DD (Nowak and Sigmund 1993).
     WinStayLoseShift,
     /// C first, then the opposite of the own last move.
     Alternator,
