@@ -46,12 +46,14 @@ abbrev pub item_count : Items → ℕ
 item_count no_items = 0
 item_count (item found rest) = item_count rest + 1
 
--- the items as numbers, where each is one from 0 to `high`
+-- a whole number from 0 to `high`, if it is one
+abbrev pub number_within : ℕ → Data → Option ℕ
+number_within high found = option_and_then (in_range 0 high) (as_integer found)
+
+-- the items as such numbers, if each is one
 abbrev pub numbers_within : ℕ → Items → Option (List ℕ)
 numbers_within high no_items = Some []
-numbers_within high (item found rest) =
-    option_and_then (λ n. option_map (λ more. n ∷ more) (numbers_within high rest))
-    (option_and_then (in_range 0 high) (as_integer found))
+numbers_within high (item found rest) = option_and_then (λ n. option_map (λ more. n ∷ more) (numbers_within high rest)) (number_within high found)
 
 -- so many whole numbers from 0 to `high`; the types of all are tested before the length and the ranges
 abbrev pub wholes_in : Place → ℕ → ℕ → Items → Result (List ℕ) Refusal

@@ -13,7 +13,7 @@ pub use keys::{
     array_at, found_at, optional_table_at, table_at, text_at, truth_at, value_at, whole_at,
     wholes_at,
 };
-pub use values::{array_of, table_of, text_of, truth_of, whole_of, wholes_of};
+pub use values::{array_of, number_within, table_of, text_of, truth_of, whole_of, wholes_of};
 
 #[cfg(test)]
 mod tests;

@@ -1,9 +1,8 @@
 //! Values by their types and ranges. Each call takes the place of the value, which refusals name.
-ghost use Rattle.std.specs.Prelude.{◌≡◌, ℕ, ◌≤◌, ◌<◌, length, slice_index, option_map, option_and_then, IfOk, IfSome};
-ghost use Rattle.toml.specs.Data.{as_integer};
+ghost use Rattle.std.specs.Prelude.{◌≡◌, ℕ, ◌≤◌, ◌<◌, length, slice_index, option_map, IfOk, IfSome};
 ghost use Rattle.toml.specs.View.{view, table_view, array_view};
 ghost use Rattle.lab_keys.specs.Refusing.{Gives, seen_by};
-ghost use Rattle.lab_keys.specs.Keys.{text_of, truth_of, array_of, table_of, whole_of, in_range, are_whole, numbers_within, wholes_in, wholes_of};
+ghost use Rattle.lab_keys.specs.Keys.{text_of, truth_of, array_of, table_of, whole_of, in_range, are_whole, number_within, numbers_within, wholes_in, wholes_of};
 
 use lab_ports::{FileError, Place, Refusal};
 use std::alloc::{AllocError, Global};
@@ -84,6 +83,20 @@ pub fn whole_of(value: &Value, place: Place, low: u64, high: u64) -> Result<u64,
     }
 }
 
+/// The whole number from 0 to `high` that a value is, if it is one.
+pub fn number_within(value: &Value, high: u32) -> Option<u32>
+    ensures exact { result ≡ number_within high (view value.now) }
+    ensures within { IfSome result (λ n. n ≤ high) }
+{
+    match value.as_integer() {
+        Some(found) => match in_range(found, 0, high as u64) {
+            Some(n) => Some(n as u32),
+            None => None,
+        },
+        None => None,
+    }
+}
+
 fn in_range(found: i64, low: u64, high: u64) -> Option<u64>
     ensures found { result ≡ in_range low high found }
     ensures within { IfSome result (λ n. (low ≤ n) × (n ≤ high)) }
@@ -120,19 +133,6 @@ fn numbers_within(alloc: Global, array: &Array, high: u32) -> Result<Option<Vec<
         numbers.push(n)?;
     }
     Ok(Some(numbers))
-}
-
-fn number_within(value: &Value, high: u32) -> Option<u32>
-    ensures exact { result ≡ option_and_then (in_range 0 high) (as_integer (view value.now)) }
-    ensures within { IfSome result (λ n. n ≤ high) }
-{
-    match value.as_integer() {
-        Some(found) => match in_range(found, 0, high as u64) {
-            Some(n) => Some(n as u32),
-            None => None,
-        },
-        None => None,
-    }
 }
 
 // So many whole numbers from 0 to `high`.
