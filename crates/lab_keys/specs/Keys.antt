@@ -1,0 +1,97 @@
+-- What stands at a key of a table of the lab file: the value, or why the file is refused. A key that must be there is
+-- tested in the order absent, of another type, out of range.
+use Rattle.std.specs.Prelude.{ℕ, ℤ, pos, negsuc, ◌+◌, ◌==◌, ◌&&◌, Bool, true, nat_le, is_some, List, [], ◌∷◌, Option, Some, None, option_map, option_and_then, Result, Ok, Err, if◌then◌else◌}
+use Rattle.toml.specs.Data.{Data, Members, Items, no_items, item, get_member, as_integer, as_str, as_bool, as_array, as_table}
+use Rattle.lab_ports.specs.declared.refusal.Place.{Place}
+use Rattle.lab_ports.specs.declared.refusal.Refusal.{Refusal}
+use Rattle.lab_ports.specs.declared.refusal.Refusal.TheVariants.{MissingKey, WrongType, OutOfRange}
+use Rattle.lab_keys.specs.Refusing.{◌>>=◌, or_refuse}
+use Rattle.lab_keys.specs.Word.{word_of}
+
+-- what stands at the key, if anything does
+abbrev pub found_at : Place → Members → Option Data
+found_at place tree = get_member (word_of place.key) tree
+
+abbrev pub value_at : Place → Members → Result Data Refusal
+value_at place tree = or_refuse (MissingKey place) (found_at place tree)
+
+-- a value that stands at the key, by its type
+abbrev pub text_of : Place → Data → Result (List ℕ) Refusal
+text_of place found = or_refuse (WrongType place) (as_str found)
+
+abbrev pub truth_of : Place → Data → Result Bool Refusal
+truth_of place found = or_refuse (WrongType place) (as_bool found)
+
+abbrev pub array_of : Place → Data → Result Items Refusal
+array_of place found = or_refuse (WrongType place) (as_array found)
+
+abbrev pub table_of : Place → Data → Result Members Refusal
+table_of place found = or_refuse (WrongType place) (as_table found)
+
+-- the number, where it lies in the range
+abbrev pub in_range : ℕ → ℕ → ℤ → Option ℕ
+in_range low high (pos n) = if nat_le low n && nat_le n high then Some n else None
+in_range low high (negsuc n) = None
+
+-- a whole number from `low` to `high`
+abbrev pub whole_of : Place → ℕ → ℕ → Data → Result ℕ Refusal
+whole_of place low high found = or_refuse (WrongType place) (as_integer found) >>= λ n. or_refuse (OutOfRange place) (in_range low high n)
+
+-- every item is a whole number
+abbrev pub are_whole : Items → Bool
+are_whole no_items = true
+are_whole (item found rest) = is_some (as_integer found) && are_whole rest
+
+abbrev pub item_count : Items → ℕ
+item_count no_items = 0
+item_count (item found rest) = item_count rest + 1
+
+-- a whole number from 0 to `high`, if it is one
+abbrev pub number_within : ℕ → Data → Option ℕ
+number_within high found = option_and_then (in_range 0 high) (as_integer found)
+
+-- the items as such numbers, if each is one
+abbrev pub numbers_within : ℕ → Items → Option (List ℕ)
+numbers_within high no_items = Some []
+numbers_within high (item found rest) = option_and_then (λ n. option_map (λ more. n ∷ more) (numbers_within high rest)) (number_within high found)
+
+-- so many whole numbers from 0 to `high`; the types of all are tested before the length and the ranges
+abbrev pub wholes_in : Place → ℕ → ℕ → Items → Result (List ℕ) Refusal
+wholes_in place count high items =
+    if are_whole items then or_refuse (OutOfRange place) (if item_count items == count then numbers_within high items else None)
+    else Err (WrongType place)
+
+abbrev pub wholes_of : Place → ℕ → ℕ → Data → Result (List ℕ) Refusal
+wholes_of place count high found = array_of place found >>= wholes_in place count high
+
+-- the same at a key that must be there
+abbrev pub text_at : Place → Members → Result (List ℕ) Refusal
+text_at place tree = value_at place tree >>= text_of place
+
+abbrev pub array_at : Place → Members → Result Items Refusal
+array_at place tree = value_at place tree >>= array_of place
+
+abbrev pub table_at : Place → Members → Result Members Refusal
+table_at place tree = value_at place tree >>= table_of place
+
+abbrev pub whole_at : Place → ℕ → ℕ → Members → Result ℕ Refusal
+whole_at place low high tree = value_at place tree >>= whole_of place low high
+
+abbrev pub wholes_at : Place → ℕ → ℕ → Members → Result (List ℕ) Refusal
+wholes_at place count high tree = value_at place tree >>= wholes_of place count high
+
+-- a truth value, or the default where the key is absent
+abbrev pub truth_or : Place → Bool → Option Data → Result Bool Refusal
+truth_or place default None = Ok default
+truth_or place default (Some found) = truth_of place found
+
+abbrev pub truth_at : Place → Bool → Members → Result Bool Refusal
+truth_at place default tree = truth_or place default (found_at place tree)
+
+-- the table, or none where the key is absent
+abbrev pub table_if : Place → Option Data → Result (Option Members) Refusal
+table_if place None = Ok None
+table_if place (Some found) = table_of place found >>= λ table. Ok (Some table)
+
+abbrev pub optional_table_at : Place → Members → Result (Option Members) Refusal
+optional_table_at place tree = table_if place (found_at place tree)

@@ -1,0 +1,16 @@
+//! Reads one strategy of a lab file: a memory-one vector, a finite machine, a lookup table or the name
+//! of a plug.
+#![tactic(auto)]
+
+mod draft;
+mod entry;
+mod file_name;
+mod machine;
+mod sheets;
+mod states;
+mod toml_rows;
+mod transition;
+
+pub use draft::{Draft, MachineFile};
+pub use entry::read_sheet;
+pub use file_name::FileName;
