@@ -16,7 +16,7 @@ abbrev pub vector_automaton : SheetData → Automaton
 vector_automaton sheet =
     record { den = sheet.den; start = 0; rows = vector_row (slice_index sheet.opening 0) ∷ map vector_row sheet.table }
 
--- row 2s is state s about to play C, and row 2s + 1 is state s about to play D
+-- a state has two rows: the even one where it is about to play C, and the odd one behind it for D
 abbrev pub machine_place : ℕ → ℕ → ℕ
 machine_place state weight = 2 * state + (1 - weight)
 

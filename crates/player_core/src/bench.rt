@@ -16,9 +16,9 @@ use std::alloc::Global;
 
 /// The players that a program plays with: one for each place on the left side, and one on the right.
 ///
-/// A bench fits where both sides have one length, from 2 to 63; the first two places have the kinds
-/// `MemoryOne` and `Machine`, in this order, and all later places `Plug`; the names of a side's plugs
-/// differ; and at each plug's place both sides have equal names and equal automata.
+/// A bench fits if both sides are equally long, with 2 to 63 players; a `MemoryOne` comes first and a
+/// `Machine` second, and behind them stand plugs alone; no side has two plugs of one name; and two
+/// plugs that face each other share their name and their automaton.
 #[derive(Drop)]
 pub struct Bench {
     pub left: Side,
@@ -75,7 +75,7 @@ impl Bench {
     }
 
     /// Whether the bench fits. The automata are compared by resuming each mark, so the counts may
-    /// rise. Kinds, names and automata stay, and every mark ends at its start. It takes no memory.
+    /// rise. Kinds, names and automata stay, and every mark ends at its start. Nothing is allocated.
     pub fn fits(&mut self) -> bool
         ensures value { IsTrue result ↔ Fits (lasting_of (⟦<Side as Seats>⟧.seats self.old.left)) (lasting_of (⟦<Side as Seats>⟧.seats self.old.right)) }
         ensures left { lasting_of (⟦<Side as Seats>⟧.seats self.new.left) ≡ lasting_of (⟦<Side as Seats>⟧.seats self.old.left) }
@@ -88,8 +88,8 @@ impl Bench {
         answer
     }
 
-    /// The place whose players take a sheet, of a bench that fits; `None` exactly where the sheet is
-    /// a plug whose name no player has. The sheet's kind is one that the bench has a place for.
+    /// The place whose players take a sheet, of a bench that fits. `None` if the sheet names a plug
+    /// that isn't on the bench, and for no other sheet. The bench has a place for the sheet's kind.
     pub fn place(&self, sheet: &Sheet) -> Option<u32>
         requires fits { Fits (lasting_of (⟦<Side as Seats>⟧.seats self.now.left)) (lasting_of (⟦<Side as Seats>⟧.seats self.now.right)) }
         requires placeable { IsPlaceable sheet.now.kind }
@@ -105,19 +105,19 @@ impl Bench {
 
     /// Gives a sheet to the left player at its place, and one to the right player at its place. All
     /// other players stay as they are, and the bench goes on fitting.
-    pub fn load(&mut self, i: usize, left: &Sheet, j: usize, right: &Sheet)
+    pub fn load(&mut self, left_place: usize, left: &Sheet, right_place: usize, right: &Sheet)
         requires fits { Fits (lasting_of (⟦<Side as Seats>⟧.seats self.old.left)) (lasting_of (⟦<Side as Seats>⟧.seats self.old.right)) }
-        requires left { IsPlaceOf (lasting_of (⟦<Side as Seats>⟧.seats self.old.left)) (lasting_of (⟦<Side as Seats>⟧.seats self.old.right)) left.now i }
-        requires right { IsPlaceOf (lasting_of (⟦<Side as Seats>⟧.seats self.old.left)) (lasting_of (⟦<Side as Seats>⟧.seats self.old.right)) right.now j }
+        requires left { IsPlaceOf (lasting_of (⟦<Side as Seats>⟧.seats self.old.left)) (lasting_of (⟦<Side as Seats>⟧.seats self.old.right)) left.now left_place }
+        requires right { IsPlaceOf (lasting_of (⟦<Side as Seats>⟧.seats self.old.left)) (lasting_of (⟦<Side as Seats>⟧.seats self.old.right)) right.now right_place }
         ensures fits { Fits (lasting_of (⟦<Side as Seats>⟧.seats self.new.left)) (lasting_of (⟦<Side as Seats>⟧.seats self.new.right)) }
-        ensures left { ⟦<Side as Seats>⟧.seats self.new.left ≡ slice_set (⟦<Side as Seats>⟧.seats self.old.left) i (loaded (state_at (⟦<Side as Seats>⟧.seats self.old.left) i) left.now) }
-        ensures right { ⟦<Side as Seats>⟧.seats self.new.right ≡ slice_set (⟦<Side as Seats>⟧.seats self.old.right) j (loaded (state_at (⟦<Side as Seats>⟧.seats self.old.right) j) right.now) }
+        ensures left { ⟦<Side as Seats>⟧.seats self.new.left ≡ slice_set (⟦<Side as Seats>⟧.seats self.old.left) left_place (loaded (state_at (⟦<Side as Seats>⟧.seats self.old.left) left_place) left.now) }
+        ensures right { ⟦<Side as Seats>⟧.seats self.new.right ≡ slice_set (⟦<Side as Seats>⟧.seats self.old.right) right_place (loaded (state_at (⟦<Side as Seats>⟧.seats self.old.right) right_place) right.now) }
         ensures left_kept { KeepsPlugs (lasting_of (⟦<Side as Seats>⟧.seats self.old.left)) (lasting_of (⟦<Side as Seats>⟧.seats self.new.left)) }
         ensures right_kept { KeepsPlugs (lasting_of (⟦<Side as Seats>⟧.seats self.old.right)) (lasting_of (⟦<Side as Seats>⟧.seats self.new.right)) }
     {
         keeping_lasts();
-        load_place(&mut self.left, i, left);
-        load_place(&mut self.right, j, right);
+        load_place(&mut self.left, left_place, left);
+        load_place(&mut self.right, right_place, right);
     }
 
     /// A note of each plug, in order of place, of a bench that fits. No advance is made. Kinds, names

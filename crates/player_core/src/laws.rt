@@ -1,4 +1,6 @@
-//! Laws, proved once. A caller has a law by calling its function, which does nothing.
+//! Laws, proved once, on plain lists of what contracts see of a side. A caller has a law by calling
+//! its function, which does nothing. Where one place of a side has changed, `one_change` says what
+//! that does to the side, and `keeping_lasts` that the bench goes on fitting.
 ghost use Rattle.player_core.specs.Laws.{CountsAddUp, EntriesPlay, KeepingLasts, LoadKeeps, OneChange, OnePlaceTakes, PlaysWalk, SureIsTested};
 
 /// Plays move a player's mark along its automaton from where it was.

@@ -35,15 +35,15 @@ fn load_at(players: &mut Side, k: usize, sheet: &Sheet)
 }
 
 /// Gives a sheet to the player at a place, which takes it. All other players stay as they are.
-pub fn load_place(players: &mut Side, k: usize, sheet: &Sheet)
-    requires inside { k < length (⟦<Side as Seats>⟧.seats players.old) }
-    requires takes { Takes (lasting_at (lasting_of (⟦<Side as Seats>⟧.seats players.old)) k) sheet.now }
-    ensures states { ⟦<Side as Seats>⟧.seats players.new ≡ slice_set (⟦<Side as Seats>⟧.seats players.old) k (loaded (state_at (⟦<Side as Seats>⟧.seats players.old) k) sheet.now) }
+pub fn load_place(players: &mut Side, place: usize, sheet: &Sheet)
+    requires inside { place < length (⟦<Side as Seats>⟧.seats players.old) }
+    requires takes { Takes (lasting_at (lasting_of (⟦<Side as Seats>⟧.seats players.old)) place) sheet.now }
+    ensures states { ⟦<Side as Seats>⟧.seats players.new ≡ slice_set (⟦<Side as Seats>⟧.seats players.old) place (loaded (state_at (⟦<Side as Seats>⟧.seats players.old) place) sheet.now) }
     ensures kept { KeepsPlugs (lasting_of (⟦<Side as Seats>⟧.seats players.old)) (lasting_of (⟦<Side as Seats>⟧.seats players.new)) }
 {
     one_change();
     load_keeps();
-    load_at(players, k, sheet);
+    load_at(players, place, sheet);
 }
 
 fn kind_of(player: &Box<dyn Player>) -> Kind

@@ -7,8 +7,8 @@ use history_model::{Move, Name};
 
 /// A player that plays an automaton: rows with a weight of C each, over `den`, and the next row after
 /// each play. It stands at one of the rows, its mark. Contracts see it as its state: what lasts (its
-/// kind, its name and its automaton), its mark, and how often it was advanced and resumed. Both
-/// counts stay at u64's last value.
+/// kind, its name and its automaton), its mark, and how often it was advanced and resumed. A count
+/// that has come to u64's last value stays there.
 pub trait Player: Drop {
     ghost use Rattle.history_model.specs.Automaton.{weight_at};
     ghost use Rattle.player_core.specs.State.{PlayerState, IsState, advanced, resumed};
@@ -85,7 +85,8 @@ pub trait Player: Drop {
 /// The players of one side of a bench.
 pub type Side = Vec<Box<dyn Player>>;
 
-/// The players of one side as contracts see them: the list of their states, in order of place.
+/// The players of one side as contracts see them: the list of their states, in order of place. A
+/// clause names it by `⟦<Side as Seats>⟧.seats bench.now.left`, in this crate and above it.
 pub trait Seats {
     ghost use Rattle.std.specs.Prelude.{List};
     ghost use Rattle.player_core.specs.State.{PlayerState};

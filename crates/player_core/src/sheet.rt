@@ -11,9 +11,9 @@ use std::marker::Model;
 ///
 /// - `MemoryOne`: `opening` has one weight of C, and `table` four, after CC, CD, DC and DD of (own
 ///   move, other's move). Weights are at most `den`, which is from 1 to 1000.
-/// - `Machine`: `den` is 1, and n is from 1 to 256. `opening` has one weight, 1 for C and 0 for D.
-///   `table` and `next` have 2n numbers: at places 2s and 2s + 1 the play, 1 or 0, and the next state
-///   on leaving state s after hearing C and D. State 0 is the start.
+/// - `Machine`: `den` is 1, and there are 1 to 256 states, of which state 0 comes first. `opening` has
+///   one weight, 1 for C and 0 for D. `table` and `next` have two numbers for each state, the first
+///   for a heard C and the second for a heard D: the play, 1 or 0, and the state that follows.
 /// - `Lookup`: the depth is the greatest of `own`, `other` and `first`, which are at most 4 each and
 ///   at most 8 together. `opening` has depth many weights, and `table` 2^(own + other + first).
 /// - `Plug`: `den` is 1, and `plug` is the name.
