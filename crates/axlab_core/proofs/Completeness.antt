@@ -9,18 +9,21 @@ use Rattle.lab_ports.specs.declared.refusal.Refusal.{Refusal}
 use Rattle.lab_ports.specs.declared.refusal.Refusal.TheVariants.{TooLong}
 use Rattle.lab_ports.specs.declared.refusal.FileRole.TheVariants.{Lab}
 use Rattle.lab_file.specs.declared.entries.PlainLab.{PlainLab}
+use Rattle.player_core.specs.State.{Lasting}
+use Rattle.player_core.specs.Bench.{notes_of}
 use Rattle.lab_file.specs.Plain.{plain_lab}
+use Rattle.axlab_core.specs.Sides.{Turns}
 use Rattle.axlab_core.specs.declared.words.Form.{Form}
 use Rattle.axlab_core.specs.declared.words.Form.TheVariants.{Match, Unbuilt, Faulty}
 use Rattle.axlab_core.specs.declared.status.Status.{Status}
 use Rattle.axlab_core.specs.declared.status.Status.TheVariants.{Answered, Denied, Usage, ReadFault, Refused, WriteFault, NoMemory}
 use Rattle.axlab_core.specs.Complete.{HoldsFile, HoldsLab, HoldsRefused, LacksLab, IsStatusOrMemory}
 use Rattle.axlab_core.specs.Outcome.{OnAnswered, OnReadFault, OnWriteFault, IfRefused, IfDenied}
-use Rattle.axlab_core.specs.Right.{WhyRefused, WhyUnread, RefusesFile, GaveLab, IsPromised, Wrote, WrotePart}
+use Rattle.axlab_core.specs.Right.{lab_of, WhyRefused, WhyUnread, RefusesFile, GaveLab, IsPromised, Wrote, WrotePart}
 
 -- two files with one front of 1 MiB and a byte give one lab, or are refused alike
-pub same_front : (bytes file : List ℕ) → take 1048577 bytes ≡ file → plain_lab file ≡ plain_lab bytes
-same_front bytes file front =
+pub same_front : (players : List Lasting) (bytes file : List ℕ) → take 1048577 bytes ≡ file → lab_of players file ≡ lab_of players bytes
+same_front players bytes file front =
     elim (cases_Bool (nat_lt 1048576 (length bytes))) [
       | inl long ↦
           let cut : length (take 1048577 bytes) ≡ 1048577 = length-take-le 1048577 bytes (grind (arith, nat_tests)) in
@@ -29,16 +32,16 @@ same_front bytes file front =
           rw (long, long')
       | inr short ↦
           let whole : take 1048577 bytes ≡ bytes = take_all 1048577 bytes (grind (arith, nat_tests)) in
-          ap plain_lab (sym front ∙ whole)
+          ap (lab_of players) (sym front ∙ whole)
     ]
 
 -- what the read of a held file gave stands for the file
-pub gave_held : (name : List ℕ) (holding : Option Holding) (files : Holding) (bytes file : List ℕ) → holding ≡ Some files
-    → file_of name files ≡ Some bytes → GaveLab name holding file → plain_lab file ≡ plain_lab bytes
-gave_held name holding files bytes file told held gave =
+pub gave_held : (players : List Lasting) (name : List ℕ) (holding : Option Holding) (files : Holding) (bytes file : List ℕ) → holding ≡ Some files
+    → file_of name files ≡ Some bytes → GaveLab name holding file → lab_of players file ≡ lab_of players bytes
+gave_held players name holding files bytes file told held gave =
     let front : option_map (take 1048577) (file_of name files) ≡ Some file = rw told at gave in
     let front_is : Some (take 1048577 bytes) ≡ Some file = rw held at front in
-    same_front bytes file (cc)
+    same_front players bytes file (cc)
 
 -- no read of a name that isn't held gave anything
 pub gave_nothing : (name : List ℕ) (holding : Option Holding) (files : Holding) (file : List ℕ) → holding ≡ Some files
@@ -55,13 +58,13 @@ not_missing name holding files bytes told held missing =
     cc
 
 -- what the clauses of a call say of its status
-pub record HasCauses (status : Status) (form : Form) (name : List ℕ) (holding : Option Holding) (before now : ℕ) (old new : Option (List ℕ)) (fault : Type 0) : Type 0 where
+pub record HasCauses (status : Status) (form : Form) (players : List Lasting) (asked_before asked_now : Turns) (name : List ℕ) (holding : Option Holding) (before now : ℕ) (old new : Option (List ℕ)) (fault : Type 0) : Type 0 where
   pub usage : status ≡ Usage → form ≡ Faulty
-  pub answered : OnAnswered status (Wrote form name holding old new)
-  pub part : OnWriteFault status (WrotePart form name holding old new)
+  pub answered : OnAnswered status (Wrote form players asked_before asked_now name holding old new)
+  pub part : OnWriteFault status (WrotePart form players name holding old new)
   pub write_fault : OnWriteFault status fault
   pub read_fault : OnReadFault status (WhyUnread form name holding before now)
-  pub refused : IfRefused status (WhyRefused form name holding)
+  pub refused : IfRefused status (WhyRefused form players name holding)
   pub denied : IfDenied status (λ _. ⊥)
 
 -- the causes where the words are `match` and a lab
@@ -71,73 +74,73 @@ unread_match Match name holding before now is why = why
 unread_match Unbuilt name holding before now is why = absurd why
 unread_match Faulty name holding before now is why = absurd why
 
-refused_match : (form : Form) (name : List ℕ) (holding : Option Holding) (refusal : Refusal) → form ≡ Match
-    → WhyRefused form name holding refusal → RefusesFile name holding refusal
-refused_match Match name holding refusal is why = why
-refused_match Unbuilt name holding refusal is why = absurd (cc)
-refused_match Faulty name holding refusal is why = absurd why
+refused_match : (form : Form) (players : List Lasting) (name : List ℕ) (holding : Option Holding) (refusal : Refusal) → form ≡ Match
+    → WhyRefused form players name holding refusal → RefusesFile players name holding refusal
+refused_match Match players name holding refusal is why = why
+refused_match Unbuilt players name holding refusal is why = absurd (cc)
+refused_match Faulty players name holding refusal is why = absurd why
 
-pub complete : (status : Status) (form : Form) (name : List ℕ) (holding : Option Holding) (before now : ℕ) (old new : Option (List ℕ)) (fault : Type 0)
-    → HasCauses status form name holding before now old new fault → HoldsLab form name holding
+pub complete : (status : Status) (form : Form) (players : List Lasting) (asked_before asked_now : Turns) (name : List ℕ) (holding : Option Holding) (before now : ℕ) (old new : Option (List ℕ)) (fault : Type 0)
+    → HasCauses status form players asked_before asked_now name holding before now old new fault → HoldsLab form players name holding
     → (Rose before now → ⊥) → (fault → ⊥) → IsStatusOrMemory Answered status
-complete Answered form name holding before now old new fault c h calm calm_out = inl refl
-complete (Denied line) form name holding before now old new fault c h calm calm_out = absurd c.denied
-complete Usage form name holding before now old new fault c h calm calm_out =
+complete Answered form players asked_before asked_now name holding before now old new fault c h calm calm_out = inl refl
+complete (Denied line) form players asked_before asked_now name holding before now old new fault c h calm calm_out = absurd c.denied
+complete Usage form players asked_before asked_now name holding before now old new fault c h calm calm_out =
     let faulty = c.usage refl in let f = h.held.form_is in absurd (cc)
-complete ReadFault form name holding before now old new fault c h calm calm_out =
+complete ReadFault form players asked_before asked_now name holding before now old new fault c h calm calm_out =
     elim (unread_match form name holding before now h.held.form_is c.read_fault) [
       | inl rose ↦ absurd (calm rose)
       | inr missing ↦ absurd (not_missing name holding h.held.files h.bytes h.held.told h.held.file missing)
     ]
-complete (Refused refusal) form name holding before now old new fault c h calm calm_out =
-    let why = refused_match form name holding refusal h.held.form_is c.refused in
-    let same : plain_lab why.file ≡ plain_lab h.bytes = gave_held name holding h.held.files h.bytes why.file h.held.told h.held.file why.gave in
-    let refused : plain_lab why.file ≡ Err refusal = why.refused in
-    let lab_is : plain_lab h.bytes ≡ Ok h.lab = h.lab_is in
+complete (Refused refusal) form players asked_before asked_now name holding before now old new fault c h calm calm_out =
+    let why = refused_match form players name holding refusal h.held.form_is c.refused in
+    let same : lab_of players why.file ≡ lab_of players h.bytes = gave_held players name holding h.held.files h.bytes why.file h.held.told h.held.file why.gave in
+    let refused : lab_of players why.file ≡ Err refusal = why.refused in
+    let lab_is : lab_of players h.bytes ≡ Ok h.lab = h.lab_is in
     absurd (cc)
-complete WriteFault form name holding before now old new fault c h calm calm_out = absurd (calm_out c.write_fault)
-complete NoMemory form name holding before now old new fault c h calm calm_out = inr refl
+complete WriteFault form players asked_before asked_now name holding before now old new fault c h calm calm_out = absurd (calm_out c.write_fault)
+complete NoMemory form players asked_before asked_now name holding before now old new fault c h calm calm_out = inr refl
 
 -- a right output comes of a lab, and so not of a file that is refused
-not_promised : (form : Form) (name : List ℕ) (holding : Option Holding) (refusal : Refusal) (text : List ℕ)
-    → HoldsRefused form name holding refusal → IsPromised form name holding text → ⊥
-not_promised form name holding refusal text h p =
-    let same : plain_lab p.file ≡ plain_lab h.bytes = gave_held name holding h.held.files h.bytes p.file h.held.told h.held.file p.gave in
-    let refused : plain_lab h.bytes ≡ Err refusal = h.refused in
-    let lab_is : plain_lab p.file ≡ Ok p.lab = p.lab_is in
+not_promised : (form : Form) (players : List Lasting) (name : List ℕ) (holding : Option Holding) (refusal : Refusal) (text : List ℕ)
+    → HoldsRefused form players name holding refusal → IsPromised form players name holding text → ⊥
+not_promised form players name holding refusal text h p =
+    let same : lab_of players p.file ≡ lab_of players h.bytes = gave_held players name holding h.held.files h.bytes p.file h.held.told h.held.file p.gave in
+    let refused : lab_of players h.bytes ≡ Err refusal = h.refused in
+    let lab_is : lab_of players p.file ≡ Ok p.lab = p.lab_is in
     cc
 
-pub refuses : (status : Status) (form : Form) (name : List ℕ) (holding : Option Holding) (before now : ℕ) (old new : Option (List ℕ)) (fault : Type 0) (refusal : Refusal)
-    → HasCauses status form name holding before now old new fault → HoldsRefused form name holding refusal
+pub refuses : (status : Status) (form : Form) (players : List Lasting) (asked_before asked_now : Turns) (name : List ℕ) (holding : Option Holding) (before now : ℕ) (old new : Option (List ℕ)) (fault : Type 0) (refusal : Refusal)
+    → HasCauses status form players asked_before asked_now name holding before now old new fault → HoldsRefused form players name holding refusal
     → (Rose before now → ⊥) → IsStatusOrMemory (Refused refusal) status
-refuses Answered form name holding before now old new fault refusal c h calm = absurd (not_promised form name holding refusal _ h c.answered.promised)
-refuses (Denied line) form name holding before now old new fault refusal c h calm = absurd c.denied
-refuses Usage form name holding before now old new fault refusal c h calm =
+refuses Answered form players asked_before asked_now name holding before now old new fault refusal c h calm = absurd (not_promised form players name holding refusal _ h c.answered.promised)
+refuses (Denied line) form players asked_before asked_now name holding before now old new fault refusal c h calm = absurd c.denied
+refuses Usage form players asked_before asked_now name holding before now old new fault refusal c h calm =
     let faulty = c.usage refl in let f = h.held.form_is in absurd (cc)
-refuses ReadFault form name holding before now old new fault refusal c h calm =
+refuses ReadFault form players asked_before asked_now name holding before now old new fault refusal c h calm =
     elim (unread_match form name holding before now h.held.form_is c.read_fault) [
       | inl rose ↦ absurd (calm rose)
       | inr missing ↦ absurd (not_missing name holding h.held.files h.bytes h.held.told h.held.file missing)
     ]
-refuses (Refused other) form name holding before now old new fault refusal c h calm =
-    let why = refused_match form name holding other h.held.form_is c.refused in
-    let same : plain_lab why.file ≡ plain_lab h.bytes = gave_held name holding h.held.files h.bytes why.file h.held.told h.held.file why.gave in
-    let refused_so : plain_lab why.file ≡ Err other = why.refused in
-    let refused : plain_lab h.bytes ≡ Err refusal = h.refused in
+refuses (Refused other) form players asked_before asked_now name holding before now old new fault refusal c h calm =
+    let why = refused_match form players name holding other h.held.form_is c.refused in
+    let same : lab_of players why.file ≡ lab_of players h.bytes = gave_held players name holding h.held.files h.bytes why.file h.held.told h.held.file why.gave in
+    let refused_so : lab_of players why.file ≡ Err other = why.refused in
+    let refused : lab_of players h.bytes ≡ Err refusal = h.refused in
     let one : other ≡ refusal = cc in
     inl (ap (λ r. Refused r) one)
-refuses WriteFault form name holding before now old new fault refusal c h calm = absurd (not_promised form name holding refusal _ h c.part.promised)
-refuses NoMemory form name holding before now old new fault refusal c h calm = inr refl
+refuses WriteFault form players asked_before asked_now name holding before now old new fault refusal c h calm = absurd (not_promised form players name holding refusal _ h c.part.promised)
+refuses NoMemory form players asked_before asked_now name holding before now old new fault refusal c h calm = inr refl
 
-pub misses : (status : Status) (form : Form) (name : List ℕ) (holding : Option Holding) (before now : ℕ) (old new : Option (List ℕ)) (fault : Type 0)
-    → HasCauses status form name holding before now old new fault → LacksLab form name holding → IsStatusOrMemory ReadFault status
-misses Answered form name holding before now old new fault c h = absurd (gave_nothing name holding h.files _ h.told h.none c.answered.promised.gave)
-misses (Denied line) form name holding before now old new fault c h = absurd c.denied
-misses Usage form name holding before now old new fault c h =
+pub misses : (status : Status) (form : Form) (players : List Lasting) (asked_before asked_now : Turns) (name : List ℕ) (holding : Option Holding) (before now : ℕ) (old new : Option (List ℕ)) (fault : Type 0)
+    → HasCauses status form players asked_before asked_now name holding before now old new fault → LacksLab form name holding → IsStatusOrMemory ReadFault status
+misses Answered form players asked_before asked_now name holding before now old new fault c h = absurd (gave_nothing name holding h.files _ h.told h.none c.answered.promised.gave)
+misses (Denied line) form players asked_before asked_now name holding before now old new fault c h = absurd c.denied
+misses Usage form players asked_before asked_now name holding before now old new fault c h =
     let faulty = c.usage refl in let f = h.form_is in absurd (cc)
-misses ReadFault form name holding before now old new fault c h = inl refl
-misses (Refused other) form name holding before now old new fault c h =
-    let why = refused_match form name holding other h.form_is c.refused in
+misses ReadFault form players asked_before asked_now name holding before now old new fault c h = inl refl
+misses (Refused other) form players asked_before asked_now name holding before now old new fault c h =
+    let why = refused_match form players name holding other h.form_is c.refused in
     absurd (gave_nothing name holding h.files why.file h.told h.none why.gave)
-misses WriteFault form name holding before now old new fault c h = absurd (gave_nothing name holding h.files _ h.told h.none c.part.promised.gave)
-misses NoMemory form name holding before now old new fault c h = inr refl
+misses WriteFault form players asked_before asked_now name holding before now old new fault c h = absurd (gave_nothing name holding h.files _ h.told h.none c.part.promised.gave)
+misses NoMemory form players asked_before asked_now name holding before now old new fault c h = inr refl

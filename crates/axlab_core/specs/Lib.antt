@@ -1,9 +1,9 @@
-pub mod Automata
 pub mod Commands
 pub mod Complete
 pub mod Outcome
 pub mod Report
 pub mod Right
+pub mod Sides
 pub mod Texts
 pub mod WordList
 pub mod Words

@@ -2,7 +2,6 @@
 //! the report.
 #![tactic(auto)]
 
-mod matches;
 mod report;
 mod run;
 mod status;

@@ -2,15 +2,15 @@
 -- tested in the order absent, of another type, out of range.
 use Rattle.std.specs.Prelude.{ℕ, ℤ, pos, negsuc, ◌+◌, ◌==◌, ◌&&◌, Bool, true, nat_le, is_some, List, [], ◌∷◌, Option, Some, None, option_map, option_and_then, Result, Ok, Err, if◌then◌else◌}
 use Rattle.toml.specs.Data.{Data, Members, Items, no_items, item, get_member, as_integer, as_str, as_bool, as_array, as_table}
-use Rattle.lab_ports.specs.declared.refusal.Place.{Place}
+use Rattle.lab_ports.specs.declared.place.Place.{Place}
 use Rattle.lab_ports.specs.declared.refusal.Refusal.{Refusal}
 use Rattle.lab_ports.specs.declared.refusal.Refusal.TheVariants.{MissingKey, WrongType, OutOfRange}
 use Rattle.lab_keys.specs.Refusing.{◌>>=◌, or_refuse}
-use Rattle.lab_keys.specs.Word.{word_of}
+use Rattle.lab_ports.specs.KeyWord.{key_word}
 
 -- what stands at the key, if anything does
 abbrev pub found_at : Place → Members → Option Data
-found_at place tree = get_member (word_of place.key) tree
+found_at place tree = get_member (key_word place.key) tree
 
 abbrev pub value_at : Place → Members → Result Data Refusal
 value_at place tree = or_refuse (MissingKey place) (found_at place tree)

@@ -6,7 +6,6 @@ ghost use Rattle.lab_keys.specs.Refusing.{Gives, seen_by};
 ghost use Rattle.lab_keys.specs.Keys.{found_at, value_at, text_at, array_at, table_at, whole_at, wholes_at, truth_at, optional_table_at};
 
 use crate::values::{array_of, table_of, text_of, truth_of, whole_of, wholes_of};
-use crate::word::word_of;
 use lab_ports::{FileError, Place, Refusal};
 use std::alloc::Global;
 use toml::value::Array;
@@ -22,7 +21,7 @@ fn member<'a>(table: &'a Table, word: &str) -> Option<&'a Value>
 pub fn found_at(table: &Table, place: Place) -> Option<&Value>
     ensures { option_map (λ value. view value.now) result ≡ found_at place (table_view table.now) }
 {
-    member(table, word_of(place.key))
+    member(table, place.key.word())
 }
 
 /// What stands at a key.

@@ -7,7 +7,6 @@
 
 mod keys;
 mod values;
-mod word;
 
 pub use keys::{
     array_at, found_at, optional_table_at, table_at, text_at, truth_at, value_at, whole_at,

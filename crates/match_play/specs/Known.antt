@@ -1,11 +1,10 @@
 -- The sheets that a bench has players for.
-use Rattle.std.specs.Prelude.{ℕ, List}
+use Rattle.std.specs.Prelude.{List}
 use Rattle.player_core.specs.State.{Lasting}
 use Rattle.player_core.specs.Sheet.{SheetData}
-use Rattle.player_core.specs.Fits.{IsPlaceable, IsPlaceOf}
+use Rattle.player_core.specs.Fits.{IsPlaceable, NoPlugNamed}
 
--- the bench has a place whose players take the sheet
-pub record IsKnown (left right : List Lasting) (sheet : SheetData) : Type 0 where
+-- the bench has a place for the sheet's kind, and for a plug a player of its name
+pub record IsKnown (players : List Lasting) (sheet : SheetData) : Type 0 where
   pub placeable : IsPlaceable sheet.kind
-  pub place : ℕ
-  pub takes : IsPlaceOf left right sheet place
+  pub named : NoPlugNamed players sheet → ⊥

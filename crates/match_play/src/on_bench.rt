@@ -38,7 +38,7 @@ fn play_at(bench: &mut Bench, i: usize, j: usize, turns: u64) -> Tally
 // The place whose players take the sheet.
 fn place_of(bench: &Bench, sheet: &Sheet) -> usize
     requires fits { Fits (lasting_of (⟦<Side as Seats>⟧.seats bench.now.left)) (lasting_of (⟦<Side as Seats>⟧.seats bench.now.right)) }
-    requires known { IsKnown (lasting_of (⟦<Side as Seats>⟧.seats bench.now.left)) (lasting_of (⟦<Side as Seats>⟧.seats bench.now.right)) sheet.now }
+    requires known { IsKnown (lasting_of (⟦<Side as Seats>⟧.seats bench.now.left)) sheet.now }
     ensures { IsPlaceOf (lasting_of (⟦<Side as Seats>⟧.seats bench.now.left)) (lasting_of (⟦<Side as Seats>⟧.seats bench.now.right)) sheet.now result }
 {
     match bench.place(sheet) {
@@ -52,8 +52,8 @@ fn place_of(bench: &Bench, sheet: &Sheet) -> usize
 /// side makes exactly `turns` advances. Takes no memory.
 pub fn play_sheets(bench: &mut Bench, left: &Sheet, right: &Sheet, turns: u64) -> Tally
     requires fits { Fits (lasting_of (⟦<Side as Seats>⟧.seats bench.old.left)) (lasting_of (⟦<Side as Seats>⟧.seats bench.old.right)) }
-    requires left_known { IsKnown (lasting_of (⟦<Side as Seats>⟧.seats bench.old.left)) (lasting_of (⟦<Side as Seats>⟧.seats bench.old.right)) left.now }
-    requires right_known { IsKnown (lasting_of (⟦<Side as Seats>⟧.seats bench.old.left)) (lasting_of (⟦<Side as Seats>⟧.seats bench.old.right)) right.now }
+    requires left_known { IsKnown (lasting_of (⟦<Side as Seats>⟧.seats bench.old.left)) left.now }
+    requires right_known { IsKnown (lasting_of (⟦<Side as Seats>⟧.seats bench.old.left)) right.now }
     requires sure_left { IsSure (entry_automaton (lasting_of (⟦<Side as Seats>⟧.seats bench.old.left)) left.now) }
     requires sure_right { IsSure (entry_automaton (lasting_of (⟦<Side as Seats>⟧.seats bench.old.left)) right.now) }
     requires turns { turns ≤ 10 ^ 12 }

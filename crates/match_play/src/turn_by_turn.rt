@@ -8,7 +8,7 @@ ghost use Rattle.player_core.specs.State.{IsState, advanced, at_start, more};
 ghost use Rattle.match_play.specs.Match.{after_match};
 
 use history_model::{Move, Play, Tally};
-use player_core::Player;
+use player_core::{Player, restart};
 
 /// Plays a match of at most 10^12 turns between two players whose automata are sure, and counts the
 /// plays as the left player sees them. Both players are resumed at their starts first, wherever they
@@ -38,15 +38,6 @@ pub fn play(left: &mut Box<dyn Player>, right: &mut Box<dyn Player>, turns: u64)
         tally.count(play.mine, play.theirs);
     }
     tally
-}
-
-// Resumes a player at its start.
-fn restart(player: &mut Box<dyn Player>)
-    ensures state { state player.new ≡ at_start (state player.old) }
-    ensures valid { IsState (state player.old) }
-{
-    let start = player.start();
-    player.resume(start);
 }
 
 // One turn from where the two stand, and what they played in it as the left one sees it.

@@ -4,10 +4,10 @@ use Rattle.toml.specs.Data.{Data, Members}
 use Rattle.history_model.specs.declared.moves.Move.{Move}
 use Rattle.player_core.specs.declared.bench.PlugNote.{PlugNote}
 use Rattle.player_core.specs.Sheet.{SheetData}
-use Rattle.lab_ports.specs.declared.refusal.KeyName.{KeyName}
-use Rattle.lab_ports.specs.declared.refusal.KeyName.TheVariants.{Kind, Den, Opening, Weights, Start, Rows, File, Own, Other, First, Table, Plug}
-use Rattle.lab_ports.specs.declared.refusal.Place.{Place}
-use Rattle.lab_ports.specs.declared.refusal.TableName.TheVariants.{Entry}
+use Rattle.lab_ports.specs.declared.place.KeyName.{KeyName}
+use Rattle.lab_ports.specs.declared.place.KeyName.TheVariants.{Kind, Den, Opening, Weights, Start, Rows, File, Own, Other, First, Table, Plug}
+use Rattle.lab_ports.specs.declared.place.Place.{Place}
+use Rattle.lab_ports.specs.declared.place.TableName.TheVariants.{Entry}
 use Rattle.lab_ports.specs.declared.refusal.Refusal.{Refusal}
 use Rattle.lab_ports.specs.declared.refusal.Refusal.TheVariants.{MissingKey, OutOfRange, BadName, UnknownKind, UnknownPlug}
 use Rattle.lab_keys.specs.Refusing.{◌>>=◌, or_refuse}

@@ -3,7 +3,7 @@ ghost use Rattle.std.specs.Prelude.{◌≡◌, ◌+◌, ◌≤◌, IfOk, IfSome}
 ghost use Rattle.toml.specs.View.{view, table_view};
 ghost use Rattle.history_model.specs.Name.{IsName};
 ghost use Rattle.lab_keys.specs.Refusing.{Gives};
-ghost use Rattle.lab_ports.specs.declared.refusal.KeyName.TheVariants.{Rows, File};
+ghost use Rattle.lab_ports.specs.declared.place.KeyName.TheVariants.{Rows, File};
 ghost use Rattle.lab_keys.specs.Keys.{found_at, text_at, whole_at};
 ghost use Rattle.strategy_file.specs.SheetOf.{at, vector_of, machine_in_lab, machine_in_file, machine_from, machine_of, table_weights, table_of, plug_named, plug_of, draft_of_kind, draft_of};
 

@@ -1,0 +1,27 @@
+-- Whether a sheet is sure: every weight of its automaton is 0 or the denominator.
+use Rattle.std.specs.Prelude.{ℕ, ◌||◌, ◌==◌, Bool, false, List, [], ◌∷◌, bytes_eq, if◌then◌else◌}
+use Rattle.player_core.specs.declared.kind.Kind.{Kind}
+use Rattle.player_core.specs.declared.kind.Kind.TheVariants.{MemoryOne, Machine, Lookup, Plug}
+use Rattle.player_core.specs.declared.bench.PlugNote.{PlugNote}
+use Rattle.player_core.specs.Sheet.{SheetData}
+use Rattle.player_core.specs.AutomatonOf.{vector_automaton, machine_automaton}
+use Rattle.player_core.specs.Bench.{is_sure}
+
+-- a weight that leaves nothing to chance
+abbrev pub is_sure_weight : ℕ → ℕ → Bool
+is_sure_weight den weight = weight == 0 || weight == den
+
+-- what the note of the plug of this name says
+abbrev pub plug_is_sure : List PlugNote → List ℕ → Bool
+plug_is_sure [] name = false
+plug_is_sure (note ∷ notes) name = if bytes_eq note.name name then note.sure else plug_is_sure notes name
+
+-- lookup tables don't count as sure yet
+abbrev pub sure_by : Kind → List PlugNote → SheetData → Bool
+sure_by MemoryOne notes sheet = is_sure (vector_automaton sheet)
+sure_by Machine notes sheet = is_sure (machine_automaton sheet)
+sure_by Lookup notes sheet = false
+sure_by Plug notes sheet = plug_is_sure notes sheet.plug
+
+abbrev pub sheet_is_sure : List PlugNote → SheetData → Bool
+sheet_is_sure notes sheet = sure_by sheet.kind notes sheet

@@ -1,0 +1,54 @@
+//! Whether a sheet leaves nothing to chance.
+ghost use Rattle.std.specs.Prelude.{◌≡◌};
+ghost use Rattle.std.specs.List.{list_all};
+ghost use Rattle.player_core.specs.AutomatonOf.{vector_automaton};
+ghost use Rattle.player_core.specs.Bench.{is_sure};
+ghost use Rattle.lab_file.specs.Sure.{is_sure_weight, plug_is_sure, sheet_is_sure};
+
+use history_model::Name;
+use player_core::{Kind, PlugNote, Sheet};
+
+/// Whether every weight of the sheet's automaton is 0 or the denominator.
+#[tactic(auto, using(crate::proofs::Sureness::machines_are_sure))]
+pub(crate) fn sheet_is_sure(notes: &Vec<PlugNote>, sheet: &Sheet) -> bool
+    ensures { result ≡ sheet_is_sure notes.now.items sheet.now }
+{
+    match sheet.kind {
+        Kind::MemoryOne => vector_is_sure(sheet),
+        Kind::Machine => true,
+        Kind::Lookup => false,
+        Kind::Plug => plug_is_sure(notes, sheet.plug),
+    }
+}
+
+#[tactic(auto, using(crate::proofs::Sureness::vector_sureness))]
+fn vector_is_sure(sheet: &Sheet) -> bool
+    requires { sheet.now.kind ≡ Kind.MemoryOne }
+    ensures { result ≡ is_sure (vector_automaton sheet.now) }
+{
+    is_sure_weight(sheet.opening[0], sheet.den) && are_sure_weights(&sheet.table, sheet.den)
+}
+
+fn is_sure_weight(weight: u32, den: u32) -> bool
+    ensures { result ≡ is_sure_weight den weight }
+{
+    weight == 0 || weight == den
+}
+
+fn are_sure_weights(weights: &Vec<u32>, den: u32) -> bool
+    ensures { result ≡ list_all (is_sure_weight den) weights.now.items }
+{
+    weights.iter().all(|weight| is_sure_weight(*weight, den))
+}
+
+// What the note of the plug of this name says.
+fn plug_is_sure(notes: &Vec<PlugNote>, name: Name) -> bool
+    ensures { result ≡ plug_is_sure notes.now.items name }
+{
+    for note in notes {
+        if note.name.bytes() == name.bytes() {
+            return note.sure;
+        }
+    }
+    false
+}
