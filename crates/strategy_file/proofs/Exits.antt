@@ -1,19 +1,19 @@
 -- The exits of states, as rows and states are added.
-use Rattle.std.proofs.Common.{◌≡◌, ℕ, zero, suc, ◌+◌, ◌*◌, ◌≤◌, ◌<◌, Bool, true, false, cond, ◌&&◌, ◌||◌, eqb, List, [], ◌∷◌, ◌++◌, length, length-append, map, find, Option, Some, None, is_some, slice_get, get_or, set, sum_by, refl, sym, ap, subst, ◌∙◌, inl, inr, rules, arith}
-use Rattle.std.proofs.lemmas.Bool.{cases_Bool, eqb-true, eqb-false, eq-eqb, true≢false, false≢true}
+use Rattle.std.proofs.Common.{◌≡◌, ℕ, zero, suc, ◌+◌, ◌*◌, ◌≤◌, Bool, true, false, cond, ◌||◌, eqb, List, [], ◌∷◌, ◌++◌, length, length-append, map, find, Option, Some, None, is_some, slice_get, set, sum_by, refl, sym, ap, subst, ◌∙◌, inl, inr, arith}
+use Rattle.std.proofs.lemmas.Bool.{cases_Bool, eqb-true, eq-eqb, true≢false}
 use Rattle.std.proofs.lemmas.Bool.Decides.{nat_tests}
 use Rattle.std.proofs.lemmas.List.{map-append}
-use Rattle.std.proofs.lemmas.Option.{slice_get-map, slice_get_within, get_or_from_slice_get}
+use Rattle.std.proofs.lemmas.Option.{slice_get-map}
 use Rattle.std.proofs.lemmas.List.Sums.{sum_by-cons, sum_by-append}
 use Rattle.std.proofs.lemmas.List.Folds.{find-append, list_any-append}
-use Rattle.std.specs.Option.{option_or, option_map}
+use Rattle.std.specs.Option.{option_map}
 use Rattle.std.specs.List.{list_any, IsDistinct, AllByRecursion}
 use Rattle.indexmap.specs.IndexSet.{insert_key}
 use Rattle.history_model.specs.declared.moves.Move.{Move}
 use Rattle.history_model.specs.declared.moves.Move.TheVariants.{C, D}
 use Rattle.strategy_file.specs.declared.transition.Transition.{Transition}
 use Rattle.strategy_file.specs.declared.transition.Exits.{Exits}
-use Rattle.strategy_file.specs.Rows.{leaves, exits_of, same_move}
+use Rattle.strategy_file.specs.Rows.{leaves, exits_of}
 use Rattle.strategy_file.specs.RowsRead.{no_exits, exit_on, exit_set, with_exit, with_room, exit_count, one_if, LeaveThese, AreExits}
 
 -- a state is among the states after one more exactly if it was, or is that one
@@ -21,9 +21,9 @@ among_more : (s k : ℕ) (ks : List ℕ) → list_any (eqb s) (insert_key eqb ks
 among_more s k ks =
     elim (cases_Bool (list_any (eqb k) ks)) [
       | inl there ↦ rw there (elim (cases_Bool (eqb s k)) [
-          | inl same ↦ rw (eqb-true s k same, there)
-          | inr other ↦ rw other (grind arith)
-        ])
+        | inl same ↦ rw (eqb-true s k same, there)
+        | inr other ↦ rw other (grind arith)
+      ])
       | inr new ↦ rw new (list_any-append (eqb s) ks (k ∷ []) ∙ grind arith)
     ]
 
@@ -68,7 +68,7 @@ exits_other rows row s other =
 own_exits : (rows : List Transition) (state next : ℕ) (heard play : Move)
     → exit_on heard (exits_of rows state) ≡ None
     → let row : Transition = record { state = state; heard = heard; next = next; play = play } in
-      exits_of (rows ++ row ∷ []) state ≡ with_exit (exits_of rows state) row
+    exits_of (rows ++ row ∷ []) state ≡ with_exit (exits_of rows state) row
 own_exits rows state next C play none =
     let row : Transition = record { state = state; heard = C; next = next; play = play } in
     let same : eqb state state ≡ true = eq-eqb state state refl in

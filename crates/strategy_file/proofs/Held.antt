@@ -1,6 +1,6 @@
 -- What is held of a machine's rows, after one more row.
-use Rattle.std.proofs.Common.{◌≡◌, ℕ, zero, suc, ◌+◌, ◌*◌, ◌≤◌, ◌<◌, lt-ltb, le-ltb, Bool, true, false, eqb, List, [], ◌∷◌, ◌++◌, length, length-append, map, Some, None, Option, Result, Ok, Err, is_some, slice_get, get_or, set, sum_by, refl, sym, ap, ◌∙◌, inl, inr, arith}
-use Rattle.std.proofs.lemmas.Bool.{cases_Bool, eq-eqb, eqb-true, true≢false}
+use Rattle.std.proofs.Common.{◌≡◌, ℕ, ◌+◌, ◌≤◌, ◌<◌, lt-ltb, le-ltb, true, false, eqb, List, [], ◌∷◌, ◌++◌, length, length-append, Some, None, Option, Ok, Err, is_some, slice_get, get_or, set, refl, sym, ap, ◌∙◌, inl, inr, arith}
+use Rattle.std.proofs.lemmas.Bool.{cases_Bool, true≢false}
 use Rattle.std.proofs.lemmas.List.{length-map}
 use Rattle.std.proofs.lemmas.List.Folds.{list_any_at}
 use Rattle.std.proofs.lemmas.List.Sums.{fold-append, sum_by-set}

@@ -1,5 +1,5 @@
 -- The rows of a finite machine, and the sheet that they make.
-use Rattle.std.specs.Prelude.{◌≡◌, ℕ, ◌+◌, ◌≤◌, ◌&&◌, ◌==◌, Bool, true, false, nat_eq, nat_lt, is_some, find, position, fold, flat_map, map, unwrap_or, sum_by, List, [], ◌∷◌, ◌++◌, length, Option, Some, None, Result, Ok, Err, if◌then◌else◌}
+use Rattle.std.specs.Prelude.{ℕ, ◌+◌, ◌&&◌, ◌==◌, Bool, true, false, nat_eq, nat_lt, is_some, find, position, fold, flat_map, map, unwrap_or, List, [], ◌∷◌, ◌++◌, length, Option, Some, None, Result, Ok, Err, if◌then◌else◌}
 use Rattle.std.specs.List.{list_all, list_any}
 use Rattle.indexmap.specs.IndexSet.{insert_key}
 use Rattle.history_model.specs.declared.moves.Move.{Move}

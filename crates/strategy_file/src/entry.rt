@@ -20,8 +20,10 @@ use toml::{Table, Value};
 // The greatest denominator of weights.
 const LAST_DEN: u32 = 1000;
 
-// A lookup table looks at so many plays of a kind at most, and at so many in all.
+// How many plays a lookup table looks at: of own last plays, the other's last and the other's first.
 const LAST_REACH: u32 = 4;
+
+// How many plays it looks at in all.
 const WHOLE_REACH: u32 = 8;
 
 // A key of the entry of this number.

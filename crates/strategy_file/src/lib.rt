@@ -14,3 +14,6 @@ mod transition;
 pub use draft::{Draft, MachineFile};
 pub use entry::read_sheet;
 pub use file_name::FileName;
+
+#[cfg(test)]
+mod tests;

@@ -18,7 +18,12 @@ fn single(alloc: Global, number: u32) -> Result<Vec<u32>, AllocError>
 }
 
 /// The sheet of a memory-one vector.
-pub fn vector_with(alloc: Global, den: u32, opening: u32, weights: Vec<u32>) -> Result<Sheet, AllocError>
+pub fn vector_with(
+    alloc: Global,
+    den: u32,
+    opening: u32,
+    weights: Vec<u32>,
+) -> Result<Sheet, AllocError>
     requires { IsVector (vector_with den opening weights.items) }
     ensures { IfOk result (λ sheet. sheet ≡ vector_with den opening weights.items) }
 {
@@ -36,7 +41,12 @@ pub fn vector_with(alloc: Global, den: u32, opening: u32, weights: Vec<u32>) -> 
 }
 
 /// The sheet of a finite machine.
-pub fn machine_with(alloc: Global, opening: Move, table: Vec<u32>, next: Vec<u32>) -> Result<Sheet, AllocError>
+pub fn machine_with(
+    alloc: Global,
+    opening: Move,
+    table: Vec<u32>,
+    next: Vec<u32>,
+) -> Result<Sheet, AllocError>
     requires { IsMachine (machine_with opening table.items next.items) }
     ensures { IfOk result (λ sheet. sheet ≡ machine_with opening table.items next.items) }
 {
@@ -63,7 +73,13 @@ pub struct Reach {
 }
 
 /// The sheet of a lookup table.
-pub fn table_with(alloc: Global, den: u32, reach: Reach, opening: Vec<u32>, table: Vec<u32>) -> Sheet
+pub fn table_with(
+    alloc: Global,
+    den: u32,
+    reach: Reach,
+    opening: Vec<u32>,
+    table: Vec<u32>,
+) -> Sheet
     requires { IsTable (table_with den reach.own reach.other reach.first opening.items table.items) }
     ensures { result ≡ table_with den reach.own reach.other reach.first opening.items table.items }
 {

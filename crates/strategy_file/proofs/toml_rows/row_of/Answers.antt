@@ -1,4 +1,3 @@
-use Rattle.std.proofs.Common.{◌<◌, ◌≤◌, length}
 use Rattle.strategy_file.proofs.TomlRows.{no_row_short, no_row_long}
 use Rattle.strategy_file.proofs.toml_rows.row_of.Goals as goal
 

@@ -1,4 +1,4 @@
-use Rattle.std.proofs.Common.{◌≤◌, length, arith}
+use Rattle.std.proofs.Common.{arith}
 use Rattle.strategy_file.proofs.Held.{rows_few}
 use Rattle.strategy_file.proofs.machine.MachineRows.following.Goals as goal
 

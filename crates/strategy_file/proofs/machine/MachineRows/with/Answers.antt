@@ -1,7 +1,7 @@
-use Rattle.std.proofs.Common.{◌≡◌, ◌+◌, ◌≤◌, ◌<◌, true, false, ◌++◌, ◌∷◌, [], slice_get, Some, Ok, Err, ap, sym, subst, ◌∙◌, length, arith}
+use Rattle.std.proofs.Common.{◌≡◌, ◌+◌, true, false, slice_get, Some, Ok, Err, subst, length, arith}
 use Rattle.std.specs.List.{list_any}
 use Rattle.lab_ports.specs.declared.refusal.Refusal.TheVariants.{BadRows, TooManyRows}
-use Rattle.strategy_file.specs.Rows.{leaves, with_row, with_states, states_of}
+use Rattle.strategy_file.specs.Rows.{leaves, with_row}
 use Rattle.strategy_file.specs.RowsRead.{RowsRead}
 use Rattle.strategy_file.proofs.Exits.{number_kept}
 use Rattle.strategy_file.proofs.Held.{doubled_at, inside_exits, two_states, refuses_doubled, refuses_many, takes_row, held_more}

@@ -1,4 +1,4 @@
-use Rattle.std.proofs.Common.{◌≡◌, ℕ, ◌*◌, ◌<◌, ◌≤◌, ◌++◌, drop, length, slice_index}
+use Rattle.std.proofs.Common.{◌≡◌, ℕ, ◌*◌, ◌<◌, ◌++◌, drop, length, slice_index}
 use Rattle.strategy_file.specs.Rows.{numbers_of}
 use Rattle.strategy_file.proofs.states.States.next_numbers.Given as goal
 

@@ -1,0 +1,461 @@
+//! Entries of a lab file against drafts and refusals that were worked out by hand from the rules for
+//! entries. Each case is the answer in one line and below it the entry that has it.
+use crate::{Draft, MachineFile, read_sheet};
+use history_model::{Move, Name};
+use lab_ports::{FileError, Place, Refusal, TableName};
+use player_core::{PlugNote, Sheet};
+use std::alloc::Global;
+use std::fmt::Write;
+use std::test::Fail;
+
+const CASES: &str = r#"MissingKey Kind
+den = 1
+
+WrongType Kind
+kind = 1
+
+UnknownKind
+kind = "Memory-One"
+
+MemoryOne 4 0 0 0 - [3] [0, 1, 2, 4] []
+kind = "memory-one"
+den = 4
+opening = 3
+weights = [0, 1, 2, 4]
+
+MemoryOne 1000 0 0 0 - [1000] [0, 1000, 0, 0] []
+kind = "memory-one"
+den = 1000
+opening = 1000
+weights = [0, 1000, 0, 0]
+
+MissingKey Den
+kind = "memory-one"
+opening = 5
+
+WrongType Den
+kind = "memory-one"
+den = 1.0
+
+OutOfRange Den
+kind = "memory-one"
+den = 0
+opening = "C"
+
+OutOfRange Den
+kind = "memory-one"
+den = 1001
+
+MissingKey Opening
+kind = "memory-one"
+den = 4
+weights = 1
+
+WrongType Opening
+kind = "memory-one"
+den = 4
+opening = "C"
+
+OutOfRange Opening
+kind = "memory-one"
+den = 4
+opening = 5
+
+OutOfRange Opening
+kind = "memory-one"
+den = 4
+opening = -1
+
+MissingKey Weights
+kind = "memory-one"
+den = 4
+opening = 0
+
+WrongType Weights
+kind = "memory-one"
+den = 4
+opening = 0
+weights = 1
+
+WrongType Weights
+kind = "memory-one"
+den = 4
+opening = 0
+weights = [9, 9, true]
+
+OutOfRange Weights
+kind = "memory-one"
+den = 4
+opening = 0
+weights = [0, 1, 2]
+
+OutOfRange Weights
+kind = "memory-one"
+den = 4
+opening = 0
+weights = [0, 1, 2, 3, 4]
+
+OutOfRange Weights
+kind = "memory-one"
+den = 4
+opening = 0
+weights = [0, 1, 2, 5]
+
+OutOfRange Weights
+kind = "memory-one"
+den = 4
+opening = 0
+weights = [-1, 1, 2, 3]
+
+Machine 1 0 0 0 - [1] [1, 0] [0, 0]
+kind = "machine"
+start = 0
+opening = "C"
+rows = [[0, "C", 0, "C"], [0, "D", 0, "D"]]
+
+Machine 1 0 0 0 - [0] [0, 1, 1, 0, 1, 1] [1, 0, 2, 0, 2, 1]
+kind = "machine"
+start = 9
+opening = "D"
+rows = [[7, "D", 9, "D"], [7, "C", 65535, "C"], [9, "D", 9, "C"], [65535, "C", 65535, "C"], [65535, "D", 7, "C"], [9, "C", 7, "D"]]
+
+MissingKey Start
+kind = "machine"
+opening = 1
+
+WrongType Start
+kind = "machine"
+start = "0"
+
+OutOfRange Start
+kind = "machine"
+start = 65536
+
+MissingKey Opening
+kind = "machine"
+start = 65535
+rows = []
+
+WrongType Opening
+kind = "machine"
+start = 0
+opening = 1
+rows = []
+
+OutOfRange Opening
+kind = "machine"
+start = 0
+opening = "c"
+rows = []
+
+MissingKey Rows
+kind = "machine"
+start = 0
+opening = "C"
+
+OutOfRange File
+kind = "machine"
+start = 0
+opening = "C"
+rows = "none"
+file = 1
+
+WrongType Rows
+kind = "machine"
+start = 0
+opening = "C"
+rows = { a = 1 }
+
+WrongType File
+kind = "machine"
+start = 0
+opening = "C"
+file = 1979-05-27
+
+BadName
+kind = "machine"
+start = 0
+opening = "C"
+file = ""
+
+BadName
+kind = "machine"
+start = 0
+opening = "C"
+file = "-rows.csv"
+
+BadName
+kind = "machine"
+start = 0
+opening = "C"
+file = "r\u00F6ws.csv"
+
+file my rows.csv 65535 D
+kind = "machine"
+start = 65535
+opening = "D"
+file = "my rows.csv"
+
+BadRows 1
+kind = "machine"
+start = 0
+opening = "C"
+rows = []
+
+BadRows 1
+kind = "machine"
+start = 0
+opening = "C"
+rows = [0, "C", 0, "C"]
+
+BadRows 2
+kind = "machine"
+start = 0
+opening = "C"
+rows = [[0, "C", 0, "C"]]
+
+BadRows 2
+kind = "machine"
+start = 0
+opening = "C"
+rows = [[0, "C", 0, "C"], [0, "C", 1, "D"]]
+
+BadRows 2
+kind = "machine"
+start = 0
+opening = "C"
+rows = [[0, "C", 0, "C"], [0, "D", 65536, "D"]]
+
+BadRows 3
+kind = "machine"
+start = 0
+opening = "C"
+rows = [[0, "C", 0, "C"], [0, "D", 0, "D"], [0, "C", 0, "D"]]
+
+BadRows 3
+kind = "machine"
+start = 0
+opening = "C"
+rows = [[0, "C", 0, "C"], [0, "D", 1, "D"]]
+
+BadRows 1
+kind = "machine"
+start = 0
+opening = "C"
+rows = [[0, "C", 0, "C", 0]]
+
+BadRows 1
+kind = "machine"
+start = 0
+opening = "C"
+rows = [[0, "E", 0, "C"]]
+
+Lookup 1 0 0 0 - [] [0] []
+kind = "lookup"
+den = 1
+own = 0
+other = 0
+first = 0
+opening = []
+table = [0]
+
+Lookup 1 0 2 0 - [1, 1] [1, 0, 1, 1] []
+kind = "lookup"
+den = 1
+own = 0
+other = 2
+first = 0
+opening = [1, 1]
+table = [1, 0, 1, 1]
+
+Lookup 9 1 0 2 - [7, 8] [1, 2, 3, 4, 5, 6, 7, 9] []
+kind = "lookup"
+den = 9
+own = 1
+other = 0
+first = 2
+opening = [7, 8]
+table = [1, 2, 3, 4, 5, 6, 7, 9]
+
+OutOfRange Den
+kind = "lookup"
+den = 1001
+
+OutOfRange Own
+kind = "lookup"
+den = 1
+own = 5
+
+WrongType Other
+kind = "lookup"
+den = 1
+own = 4
+other = []
+
+MissingKey First
+kind = "lookup"
+den = 1
+own = 4
+other = 4
+
+OutOfRange First
+kind = "lookup"
+den = 1
+own = 4
+other = 4
+first = 1
+
+MissingKey Opening
+kind = "lookup"
+den = 1
+own = 4
+other = 4
+first = 0
+
+OutOfRange Opening
+kind = "lookup"
+den = 1
+own = 1
+other = 2
+first = 1
+opening = [1]
+table = []
+
+OutOfRange Table
+kind = "lookup"
+den = 1
+own = 1
+other = 1
+first = 0
+opening = [1]
+table = [1, 1]
+
+OutOfRange Table
+kind = "lookup"
+den = 1
+own = 1
+other = 0
+first = 0
+opening = [1]
+table = [1, 2]
+
+Plug 1 0 0 0 Tit For Tat [] [] []
+kind = "plug"
+plug = "Tit For Tat"
+
+MissingKey Plug
+kind = "plug"
+den = 1
+
+WrongType Plug
+kind = "plug"
+plug = true
+
+UnknownPlug
+kind = "plug"
+plug = "tit for tat"
+
+UnknownPlug
+kind = "plug"
+plug = "|"
+"#;
+
+fn sheet_text(alloc: Global, sheet: &Sheet) -> Result<String, Fail> {
+    let mut text = String::new(alloc);
+    write!(
+        text,
+        "{:?} {} {} {} {} ",
+        sheet.kind, sheet.den, sheet.own, sheet.other, sheet.first
+    )?;
+    write!(
+        text,
+        "{} {:?} {:?} {:?}",
+        sheet.plug, sheet.opening, sheet.table, sheet.next
+    )?;
+    Ok(text)
+}
+
+fn file_text(alloc: Global, machine: &MachineFile) -> Result<String, Fail> {
+    let file = machine.file.text();
+    Ok(format!(in alloc; "file {file} {} {:?}", machine.start, machine.opening)?)
+}
+
+// A key of the third entry, or one of another place.
+fn place_text(alloc: Global, variant: &str, place: Place) -> Result<String, Fail> {
+    if place.table == TableName::Entry && place.entry == 3 {
+        return Ok(format!(in alloc; "{variant} {:?}", place.key)?);
+    }
+    Ok(format!(in alloc; "elsewhere")?)
+}
+
+fn refusal_text(alloc: Global, refusal: Refusal) -> Result<String, Fail> {
+    match refusal {
+        Refusal::MissingKey(place) => place_text(alloc, "MissingKey", place),
+        Refusal::WrongType(place) => place_text(alloc, "WrongType", place),
+        Refusal::OutOfRange(place) => place_text(alloc, "OutOfRange", place),
+        Refusal::BadRows(3, row) => Ok(format!(in alloc; "BadRows {row}")?),
+        Refusal::BadName(3) => Ok(String::from_str(alloc, "BadName")?),
+        Refusal::UnknownKind(3) => Ok(String::from_str(alloc, "UnknownKind")?),
+        Refusal::UnknownPlug(3) => Ok(String::from_str(alloc, "UnknownPlug")?),
+        Refusal::TooManyRows(3) => Ok(String::from_str(alloc, "TooManyRows")?),
+        _ => Ok(String::from_str(alloc, "another")?),
+    }
+}
+
+// What the third entry of a lab is, as a line.
+fn answer(alloc: Global, entry: &str) -> Result<String, Fail> {
+    let Some(name) = Name::read(b"Tit For Tat") else {
+        return Ok(String::from_str(alloc, "no name")?);
+    };
+    let mut notes = Vec::new(alloc);
+    notes.push(PlugNote {
+        name,
+        rows: 2,
+        den: 1,
+        sure: true,
+    })?;
+    let table = toml::table_from_str(alloc, entry).map_err(|_| "no table")?;
+    match read_sheet(alloc, &table, 3, &notes) {
+        Ok(Draft::Ready(sheet)) => sheet_text(alloc, &sheet),
+        Ok(Draft::FromFile(machine)) => file_text(alloc, &machine),
+        Err(FileError::Refused(refusal)) => refusal_text(alloc, refusal),
+        Err(FileError::NoMemory) => Ok(String::from_str(alloc, "no memory")?),
+    }
+}
+
+#[test]
+fn reads_entries(rt: HostRuntime) -> Result<(), Fail> {
+    for case in CASES.split("\n\n") {
+        let (want, entry) = case.split_once('\n').unwrap_or((case, ""));
+        let found = answer(rt.alloc(), entry)?;
+        assert_eq!(rt; found.as_str(), want, "at {entry}");
+    }
+    Ok(())
+}
+
+// A machine that goes round so many states on hearing C, and stays where it is on hearing D.
+fn ring(alloc: Global, states: u32) -> Result<String, Fail> {
+    let mut text = String::from_str(
+        alloc,
+        "kind = \"machine\"\nstart = 0\nopening = \"C\"\nrows = [",
+    )?;
+    for state in 0..states {
+        let next = if state + 1 < states { state + 1 } else { 0 };
+        write!(
+            text,
+            "[{state}, \"C\", {next}, \"C\"], [{state}, \"D\", {state}, \"D\"], "
+        )?;
+    }
+    text.push_str("]")?;
+    Ok(text)
+}
+
+#[test]
+fn limits_states(rt: HostRuntime) -> Result<(), Fail> {
+    let most = answer(rt.alloc(), ring(rt.alloc(), 256)?.as_str())?;
+    assert!(rt; most.starts_with("Machine 1 0 0 0 - [1] [1, 0, 1, 0, "));
+    assert!(rt; most.ends_with(" 254, 253, 255, 254, 0, 255]"));
+    let more = answer(rt.alloc(), ring(rt.alloc(), 257)?.as_str())?;
+    assert_eq!(rt; more.as_str(), "TooManyRows");
+    Ok(())
+}
