@@ -1,24 +1,31 @@
 //! Runs a command.
 ghost use Rattle.std.specs.Prelude.{◌≡◌, ◌≢◌, ◌↔◌, ℕ, IfOk, string_bytes};
+ghost use Rattle.player_core.specs.State.{lasting_of};
+ghost use Rattle.player_core.specs.Fits.{Fits};
+ghost use Rattle.player_core.specs.Counts.{turns_of};
+ghost use Rattle.player_core.specs.Bench.{notes_of};
 ghost use Rattle.lab_ports.specs.Causes.{Rose};
 ghost use Rattle.lab_ports.specs.declared.refusal.Refusal.{Refusal};
 ghost use Rattle.lab_ports.specs.declared.refusal.Refusal.TheVariants.{NotBuilt};
 ghost use Rattle.lab_file.specs.Plain.{IsSound};
 ghost use Rattle.axlab_core.specs.Complete.{HoldsLab, HoldsRefused, LacksLab, IsStatusOrMemory};
 ghost use Rattle.axlab_core.specs.Outcome.{OnAnswered, OnWriteFault, OnReadFault, IfRefused, IfDenied, OnUnwritten, OnOther};
-ghost use Rattle.axlab_core.specs.Right.{IsRightMatch, Wrote, WrotePart, WhyRefused, WhyUnread, Told};
+ghost use Rattle.axlab_core.specs.Right.{IsRightMatch, IsAskedMatch, Wrote, WrotePart, WhyRefused, WhyUnread, Told};
+ghost use Rattle.axlab_core.specs.Sides.{KeepsBench};
 ghost use Rattle.axlab_core.specs.Texts.{status_text};
 ghost use Rattle.axlab_core.specs.WordList.{word_list};
 ghost use Rattle.axlab_core.specs.Words.{form_of, lab_name};
 ghost use Rattle.axlab_core.specs.declared.words.Form.TheVariants.{Match, Unbuilt, Faulty};
 
-use crate::matches::play;
 use crate::report::match_report;
 use crate::texts::status_text;
 use crate::{Form, Status};
 use history_model::{Game, Noise};
 use lab_file::{PlainLab, read_plain};
 use lab_ports::{FileError, Library, LibraryError, Refusal, Sink, send};
+use match_play::play_sheets;
+use player_core::laws::{keeping_lasts, sure_is_tested};
+use player_core::{Bench, Player, PlugNote, Seats, Side};
 use std::alloc::{AllocError, Global};
 
 const MAX_LAB: usize = 1_048_576;
@@ -31,10 +38,13 @@ fn lab_name(words: &Vec<String>) -> &str
     words[1].as_str()
 }
 
-// The report of the lab's match.
-fn match_bytes(alloc: Global, lab: &PlainLab) -> Result<String, AllocError>
-    requires { IsSound lab.now }
-    ensures { IfOk result (λ s. IsRightMatch lab.now (string_bytes s)) }
+// The report of the lab's match, which the bench's players play.
+fn match_bytes(alloc: Global, lab: &PlainLab, bench: &mut Bench) -> Result<String, AllocError>
+    requires fits { Fits (lasting_of (⟦<Side as Seats>⟧.seats bench.old.left)) (lasting_of (⟦<Side as Seats>⟧.seats bench.old.right)) }
+    requires sound { IsSound (notes_of (lasting_of (⟦<Side as Seats>⟧.seats bench.old.left))) lab.now }
+    ensures right { IfOk result (λ s. IsRightMatch (lasting_of (⟦<Side as Seats>⟧.seats bench.old.left)) lab.now (string_bytes s)) }
+    ensures asked { IsAskedMatch (lasting_of (⟦<Side as Seats>⟧.seats bench.old.left)) lab.now (record { left = turns_of (⟦<Side as Seats>⟧.seats bench.old.left); right = turns_of (⟦<Side as Seats>⟧.seats bench.old.right) }) (record { left = turns_of (⟦<Side as Seats>⟧.seats bench.new.left); right = turns_of (⟦<Side as Seats>⟧.seats bench.new.right) }) }
+    ensures kept { KeepsBench (lasting_of (⟦<Side as Seats>⟧.seats bench.old.left)) (lasting_of (⟦<Side as Seats>⟧.seats bench.old.right)) (lasting_of (⟦<Side as Seats>⟧.seats bench.new.left)) (lasting_of (⟦<Side as Seats>⟧.seats bench.new.right)) }
 {
     let game = Game {
         r: 3,
@@ -43,9 +53,10 @@ fn match_bytes(alloc: Global, lab: &PlainLab) -> Result<String, AllocError>
         p: 1,
     };
     let noise = Noise { n: 0, e: 1 };
+    sure_is_tested();
     let left = lab.entries.at(lab.left as usize);
     let right = lab.entries.at(lab.right as usize);
-    let tally = play(left, right, lab.turns);
+    let tally = play_sheets(bench, &left.sheet, &right.sheet, lab.turns);
     match_report(
         alloc,
         &game,
@@ -57,20 +68,31 @@ fn match_bytes(alloc: Global, lab: &PlainLab) -> Result<String, AllocError>
     )
 }
 
-// The command `match`.
-fn run_match<L: Library, O: Sink>(alloc: Global, name: &str, files: &mut L, out: &mut O) -> Status
-    ensures answered { OnAnswered result (Wrote Match name.now (L.holding files.old) (O.taken out.old) (O.taken out.new)) }
-    ensures write_fault { OnWriteFault result (WrotePart Match name.now (L.holding files.old) (O.taken out.old) (O.taken out.new)) }
+// The command `match`, over a bench whose plugs have these notes.
+fn answer_match<L: Library, O: Sink>(
+    alloc: Global,
+    name: &str,
+    notes: &Vec<PlugNote>,
+    files: &mut L,
+    out: &mut O,
+    bench: &mut Bench,
+) -> Status
+    requires fits { Fits (lasting_of (⟦<Side as Seats>⟧.seats bench.old.left)) (lasting_of (⟦<Side as Seats>⟧.seats bench.old.right)) }
+    requires notes { notes.now.items ≡ notes_of (lasting_of (⟦<Side as Seats>⟧.seats bench.old.left)) }
+    ensures answered { OnAnswered result (Wrote Match (lasting_of (⟦<Side as Seats>⟧.seats bench.old.left)) (record { left = turns_of (⟦<Side as Seats>⟧.seats bench.old.left); right = turns_of (⟦<Side as Seats>⟧.seats bench.old.right) }) (record { left = turns_of (⟦<Side as Seats>⟧.seats bench.new.left); right = turns_of (⟦<Side as Seats>⟧.seats bench.new.right) }) name.now (L.holding files.old) (O.taken out.old) (O.taken out.new)) }
+    ensures write_fault { OnWriteFault result (WrotePart Match (lasting_of (⟦<Side as Seats>⟧.seats bench.old.left)) name.now (L.holding files.old) (O.taken out.old) (O.taken out.new)) }
     ensures write_cause { OnWriteFault result (Rose (O.faults out.old) (O.faults out.new)) }
     ensures read_fault { OnReadFault result (WhyUnread Match name.now (L.holding files.old) (L.faults files.old) (L.faults files.new)) }
-    ensures refused { IfRefused result (WhyRefused Match name.now (L.holding files.old)) }
+    ensures refused { IfRefused result (WhyRefused Match (lasting_of (⟦<Side as Seats>⟧.seats bench.old.left)) name.now (L.holding files.old)) }
     ensures denied { IfDenied result (λ _. ⊥) }
     ensures no_usage { result ≢ Status.Usage }
     ensures untouched { OnUnwritten result (O.taken out.new ≡ O.taken out.old) }
+    ensures kept { KeepsBench (lasting_of (⟦<Side as Seats>⟧.seats bench.old.left)) (lasting_of (⟦<Side as Seats>⟧.seats bench.old.right)) (lasting_of (⟦<Side as Seats>⟧.seats bench.new.left)) (lasting_of (⟦<Side as Seats>⟧.seats bench.new.right)) }
 {
+    keeping_lasts();
     match files.read(alloc, name, MAX_LAB) {
-        Ok(file) => match read_plain(alloc, file.as_slice()) {
-            Ok(lab) => match match_bytes(alloc, &lab) {
+        Ok(file) => match read_plain(alloc, file.as_slice(), notes) {
+            Ok(lab) => match match_bytes(alloc, &lab, bench) {
                 Ok(text) => match send(out, text.as_bytes()) {
                     Ok(()) => Status::Answered,
                     Err(_) => Status::WriteFault,
@@ -86,28 +108,58 @@ fn run_match<L: Library, O: Sink>(alloc: Global, name: &str, files: &mut L, out:
     }
 }
 
+// The command `match`.
+fn run_match<L: Library, O: Sink>(
+    alloc: Global,
+    name: &str,
+    files: &mut L,
+    out: &mut O,
+    bench: &mut Bench,
+) -> Status
+    requires { Fits (lasting_of (⟦<Side as Seats>⟧.seats bench.old.left)) (lasting_of (⟦<Side as Seats>⟧.seats bench.old.right)) }
+    ensures answered { OnAnswered result (Wrote Match (lasting_of (⟦<Side as Seats>⟧.seats bench.old.left)) (record { left = turns_of (⟦<Side as Seats>⟧.seats bench.old.left); right = turns_of (⟦<Side as Seats>⟧.seats bench.old.right) }) (record { left = turns_of (⟦<Side as Seats>⟧.seats bench.new.left); right = turns_of (⟦<Side as Seats>⟧.seats bench.new.right) }) name.now (L.holding files.old) (O.taken out.old) (O.taken out.new)) }
+    ensures write_fault { OnWriteFault result (WrotePart Match (lasting_of (⟦<Side as Seats>⟧.seats bench.old.left)) name.now (L.holding files.old) (O.taken out.old) (O.taken out.new)) }
+    ensures write_cause { OnWriteFault result (Rose (O.faults out.old) (O.faults out.new)) }
+    ensures read_fault { OnReadFault result (WhyUnread Match name.now (L.holding files.old) (L.faults files.old) (L.faults files.new)) }
+    ensures refused { IfRefused result (WhyRefused Match (lasting_of (⟦<Side as Seats>⟧.seats bench.old.left)) name.now (L.holding files.old)) }
+    ensures denied { IfDenied result (λ _. ⊥) }
+    ensures no_usage { result ≢ Status.Usage }
+    ensures untouched { OnUnwritten result (O.taken out.new ≡ O.taken out.old) }
+    ensures kept { KeepsBench (lasting_of (⟦<Side as Seats>⟧.seats bench.old.left)) (lasting_of (⟦<Side as Seats>⟧.seats bench.old.right)) (lasting_of (⟦<Side as Seats>⟧.seats bench.new.left)) (lasting_of (⟦<Side as Seats>⟧.seats bench.new.right)) }
+{
+    keeping_lasts();
+    match bench.notes(alloc) {
+        Ok(notes) => answer_match(alloc, name, &notes, files, out, bench),
+        Err(_) => Status::NoMemory,
+    }
+}
+
 // Runs the command of the words, and writes its report.
 fn run<L: Library, O: Sink>(
     alloc: Global,
     words: &Vec<String>,
     files: &mut L,
     out: &mut O,
+    bench: &mut Bench,
 ) -> Status
+    requires { Fits (lasting_of (⟦<Side as Seats>⟧.seats bench.old.left)) (lasting_of (⟦<Side as Seats>⟧.seats bench.old.right)) }
     ensures usage { (result ≡ Status.Usage) ↔ (form_of (word_list words.now) ≡ Faulty) }
     ensures unbuilt { form_of (word_list words.now) ≡ Unbuilt → result ≡ Status.Refused NotBuilt }
     ensures unread { form_of (word_list words.now) ≢ Match → files.new ≡ files.old }
-    ensures answered { OnAnswered result (Wrote (form_of (word_list words.now)) (lab_name (word_list words.now)) (L.holding files.old) (O.taken out.old) (O.taken out.new)) }
-    ensures write_fault { OnWriteFault result (WrotePart (form_of (word_list words.now)) (lab_name (word_list words.now)) (L.holding files.old) (O.taken out.old) (O.taken out.new)) }
+    ensures answered { OnAnswered result (Wrote (form_of (word_list words.now)) (lasting_of (⟦<Side as Seats>⟧.seats bench.old.left)) (record { left = turns_of (⟦<Side as Seats>⟧.seats bench.old.left); right = turns_of (⟦<Side as Seats>⟧.seats bench.old.right) }) (record { left = turns_of (⟦<Side as Seats>⟧.seats bench.new.left); right = turns_of (⟦<Side as Seats>⟧.seats bench.new.right) }) (lab_name (word_list words.now)) (L.holding files.old) (O.taken out.old) (O.taken out.new)) }
+    ensures write_fault { OnWriteFault result (WrotePart (form_of (word_list words.now)) (lasting_of (⟦<Side as Seats>⟧.seats bench.old.left)) (lab_name (word_list words.now)) (L.holding files.old) (O.taken out.old) (O.taken out.new)) }
     ensures write_cause { OnWriteFault result (Rose (O.faults out.old) (O.faults out.new)) }
     ensures read_fault { OnReadFault result (WhyUnread (form_of (word_list words.now)) (lab_name (word_list words.now)) (L.holding files.old) (L.faults files.old) (L.faults files.new)) }
-    ensures refused { IfRefused result (WhyRefused (form_of (word_list words.now)) (lab_name (word_list words.now)) (L.holding files.old)) }
+    ensures refused { IfRefused result (WhyRefused (form_of (word_list words.now)) (lasting_of (⟦<Side as Seats>⟧.seats bench.old.left)) (lab_name (word_list words.now)) (L.holding files.old)) }
     ensures denied { IfDenied result (λ _. ⊥) }
     ensures untouched { OnUnwritten result (O.taken out.new ≡ O.taken out.old) }
+    ensures kept { KeepsBench (lasting_of (⟦<Side as Seats>⟧.seats bench.old.left)) (lasting_of (⟦<Side as Seats>⟧.seats bench.old.right)) (lasting_of (⟦<Side as Seats>⟧.seats bench.new.left)) (lasting_of (⟦<Side as Seats>⟧.seats bench.new.right)) }
 {
+    keeping_lasts();
     match Form::of(words) {
         Form::Faulty => Status::Usage,
         Form::Unbuilt => Status::Refused(Refusal::NotBuilt),
-        Form::Match => run_match(alloc, lab_name(words), files, out),
+        Form::Match => run_match(alloc, lab_name(words), files, out, bench),
     }
 }
 
@@ -121,41 +173,47 @@ fn tell<E: Sink>(err: &mut E, status: &Status)
     }
 }
 
-/// The program: runs the command of the words over these files, writes its report to `out`, and
-/// tells `err` what came in its way. The status says how it ended; its number is the exit status.
+/// The program: runs the command of the words over these files, with the players of this bench,
+/// writes its report to `out`, and tells `err` what came in its way. The status says how it ended;
+/// its number is the exit status.
 pub fn axlab<L: Library, O: Sink, E: Sink>(
     alloc: Global,
     words: &Vec<String>,
     files: &mut L,
     out: &mut O,
     err: &mut E,
+    bench: &mut Bench,
 ) -> Status
-    // An answer is right.
-    ensures answered { OnAnswered result (Wrote (form_of (word_list words.now)) (lab_name (word_list words.now)) (L.holding files.old) (O.taken out.old) (O.taken out.new)) }
+    requires { Fits (lasting_of (⟦<Side as Seats>⟧.seats bench.old.left)) (lasting_of (⟦<Side as Seats>⟧.seats bench.old.right)) }
+    // An answer is right, and the players were asked for it.
+    ensures answered { OnAnswered result (Wrote (form_of (word_list words.now)) (lasting_of (⟦<Side as Seats>⟧.seats bench.old.left)) (record { left = turns_of (⟦<Side as Seats>⟧.seats bench.old.left); right = turns_of (⟦<Side as Seats>⟧.seats bench.old.right) }) (record { left = turns_of (⟦<Side as Seats>⟧.seats bench.new.left); right = turns_of (⟦<Side as Seats>⟧.seats bench.new.right) }) (lab_name (word_list words.now)) (L.holding files.old) (O.taken out.old) (O.taken out.new)) }
 
     // Each other status has its cause.
     ensures usage { (result ≡ Status.Usage) ↔ (form_of (word_list words.now) ≡ Faulty) }
     ensures unbuilt { form_of (word_list words.now) ≡ Unbuilt → result ≡ Status.Refused NotBuilt }
     ensures unread { form_of (word_list words.now) ≢ Match → files.new ≡ files.old }
     ensures read_fault { OnReadFault result (WhyUnread (form_of (word_list words.now)) (lab_name (word_list words.now)) (L.holding files.old) (L.faults files.old) (L.faults files.new)) }
-    ensures refused { IfRefused result (WhyRefused (form_of (word_list words.now)) (lab_name (word_list words.now)) (L.holding files.old)) }
+    ensures refused { IfRefused result (WhyRefused (form_of (word_list words.now)) (lasting_of (⟦<Side as Seats>⟧.seats bench.old.left)) (lab_name (word_list words.now)) (L.holding files.old)) }
     ensures write_fault { OnWriteFault result (Rose (O.faults out.old) (O.faults out.new)) }
     ensures denied { IfDenied result (λ _. ⊥) }
 
     // What is held must be answered, refused or missed so, unless memory or a port fails.
-    ensures complete { HoldsLab (form_of (word_list words.now)) (lab_name (word_list words.now)) (L.holding files.old)
+    ensures complete { HoldsLab (form_of (word_list words.now)) (lasting_of (⟦<Side as Seats>⟧.seats bench.old.left)) (lab_name (word_list words.now)) (L.holding files.old)
         → ¬ Rose (L.faults files.old) (L.faults files.new) → ¬ Rose (O.faults out.old) (O.faults out.new) → IsStatusOrMemory Status.Answered result }
-    ensures refuses { (refusal : Refusal) → HoldsRefused (form_of (word_list words.now)) (lab_name (word_list words.now)) (L.holding files.old) refusal
+    ensures refuses { (refusal : Refusal) → HoldsRefused (form_of (word_list words.now)) (lasting_of (⟦<Side as Seats>⟧.seats bench.old.left)) (lab_name (word_list words.now)) (L.holding files.old) refusal
         → ¬ Rose (L.faults files.old) (L.faults files.new) → IsStatusOrMemory (Status.Refused refusal) result }
     ensures misses { LacksLab (form_of (word_list words.now)) (lab_name (word_list words.now)) (L.holding files.old) → IsStatusOrMemory Status.ReadFault result }
 
+    // The bench goes on fitting, with the same plugs and plug automata.
+    ensures kept { KeepsBench (lasting_of (⟦<Side as Seats>⟧.seats bench.old.left)) (lasting_of (⟦<Side as Seats>⟧.seats bench.old.right)) (lasting_of (⟦<Side as Seats>⟧.seats bench.new.left)) (lasting_of (⟦<Side as Seats>⟧.seats bench.new.right)) }
+
     // What the sinks took.
-    ensures part { OnWriteFault result (WrotePart (form_of (word_list words.now)) (lab_name (word_list words.now)) (L.holding files.old) (O.taken out.old) (O.taken out.new)) }
+    ensures part { OnWriteFault result (WrotePart (form_of (word_list words.now)) (lasting_of (⟦<Side as Seats>⟧.seats bench.old.left)) (lab_name (word_list words.now)) (L.holding files.old) (O.taken out.old) (O.taken out.new)) }
     ensures untouched { OnUnwritten result (O.taken out.new ≡ O.taken out.old) }
     ensures silent { OnAnswered result (E.taken err.new ≡ E.taken err.old) }
     ensures told { OnOther result (Told (status_text result) (E.taken err.old) (E.taken err.new) (E.faults err.old) (E.faults err.new)) }
 {
-    let status = run(alloc, words, files, out);
+    let status = run(alloc, words, files, out, bench);
     tell(err, &status);
     status
 }

@@ -2,7 +2,7 @@ use Rattle.axlab_core.proofs.Completeness.{complete, refuses, misses}
 use Rattle.axlab_core.proofs.run.axlab.Goals as goal
 
 pub returns-clause-complete : goal.returns-clause-complete
-returns-clause-complete g c holds calm calm_out = let e = c.run-status.ensures in complete _ _ _ _ _ _ _ _ _ (record {
+returns-clause-complete g c holds calm calm_out = let e = c.run-status.ensures in complete _ _ _ _ _ _ _ _ _ _ _ _ (record {
   usage = e.usage.0;
   answered = e.answered;
   part = e.write_fault;
@@ -13,7 +13,7 @@ returns-clause-complete g c holds calm calm_out = let e = c.run-status.ensures i
 }) holds calm calm_out
 
 pub returns-clause-refuses : goal.returns-clause-refuses
-returns-clause-refuses g c refusal holds calm = let e = c.run-status.ensures in refuses _ _ _ _ _ _ _ _ _ _ (record {
+returns-clause-refuses g c refusal holds calm = let e = c.run-status.ensures in refuses _ _ _ _ _ _ _ _ _ _ _ _ _ (record {
   usage = e.usage.0;
   answered = e.answered;
   part = e.write_fault;
@@ -24,7 +24,7 @@ returns-clause-refuses g c refusal holds calm = let e = c.run-status.ensures in 
 }) holds calm
 
 pub returns-clause-misses : goal.returns-clause-misses
-returns-clause-misses g c lacks = let e = c.run-status.ensures in misses _ _ _ _ _ _ _ _ _ (record {
+returns-clause-misses g c lacks = let e = c.run-status.ensures in misses _ _ _ _ _ _ _ _ _ _ _ _ (record {
   usage = e.usage.0;
   answered = e.answered;
   part = e.write_fault;
