@@ -1,5 +1,5 @@
 -- A new player is one.
-use Rattle.std.proofs.Common.{◌≡◌, ℕ, zero, suc, ◌<◌, ◌≤◌, List, ◌∷◌, [], length, replicate, refl, inr, arith}
+use Rattle.std.proofs.Common.{◌≡◌, ℕ, zero, suc, ◌<◌, ◌≤◌, ◌^◌, List, ◌∷◌, [], length, replicate, refl, inr, arith}
 use Rattle.history_model.specs.declared.grid.GridRow.{GridRow}
 use Rattle.history_model.specs.declared.moves.Move.{Move}
 use Rattle.history_model.specs.declared.moves.Move.TheVariants.{C, D}
@@ -32,15 +32,15 @@ cooperator_valid = record {
 }
 
 -- a player that is made of a table of such rows
-pub fresh_valid : (table : List GridRow) → table ≡ replicate 512 cooperate
-    → IsMachinePlayer (machine_state 0 table 1 0 0 0) (length table) 1
-fresh_valid table made =
+pub fresh_valid : (table : List GridRow) (turns returns : ℕ) → turns < 2 ^ 64 → returns < 2 ^ 64 → table ≡ replicate 512 cooperate
+    → IsMachinePlayer (machine_state 0 table 1 0 turns returns) (length table) 1
+fresh_valid table turns returns turns_fit returns_fit made =
     rw made (record {
       valid = record {
         automaton = cooperator_valid;
         inside = omega arith;
-        turns_fit = omega arith;
-        returns_fit = omega arith;
+        turns_fit = turns_fit;
+        returns_fit = returns_fit;
         named = inr refl;
       };
       room = refl;

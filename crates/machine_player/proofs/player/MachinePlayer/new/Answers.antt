@@ -1,8 +1,8 @@
-use Rattle.std.proofs.Common.{rules, ◌≡◌, replicate}
+use Rattle.std.proofs.Common.{rules, arith, ◌≡◌, replicate}
 use Rattle.machine_player.proofs.Fresh.{cooperate, fresh_valid}
 use Rattle.machine_player.proofs.player.MachinePlayer.new.Goals as goal
 
 pub invariant_of-result : goal.invariant_of-result
 invariant_of-result c =
     let made : c.in_ok-vec.field-0.items ≡ replicate 512 cooperate = c.in_ok-vec.ensures.items_if_clones_equal (search rules) in
-    fresh_valid c.in_ok-vec.field-0.items made
+    fresh_valid c.in_ok-vec.field-0.items _ _ (omega arith) (omega arith) made
