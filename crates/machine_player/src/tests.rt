@@ -69,7 +69,7 @@ fn plays_machines(rt: HostRuntime) -> Result<(), Fail> {
     assert_eq!(rt; (player.weight(), player.den(), player.rows()), (1, 1, 1));
     let tit_for_tat = machine(alloc, 1, &[1, 0], &[0, 0])?;
     let opposite = machine(alloc, 0, &[0, 1], &[0, 0])?;
-    // In state 1 the last heard move was D.
+    // Defects exactly after two heard Ds in a row: in state 1 the last heard move was D.
     let two_tats = machine(alloc, 1, &[1, 1, 1, 0], &[0, 1, 0, 1])?;
     let cases: [(&[Play], u32, u32, u32); 8] = [
         (&[], 1, 0, 1),
