@@ -1,3 +1,5 @@
+pub mod Answering
 pub mod Completeness
+pub mod Entries
 pub mod Padded
-pub mod Turns
+pub mod Reports

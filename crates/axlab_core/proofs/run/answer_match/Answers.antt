@@ -1,0 +1,17 @@
+use Rattle.std.proofs.Common.{◌≡◌}
+use Rattle.axlab_core.proofs.Answering.{lab_here}
+use Rattle.axlab_core.proofs.run.answer_match.Goals as goal
+
+pub returns-in-Ok-send-clause-answered : goal.returns-in-Ok-send-clause-answered
+returns-in-Ok-send-clause-answered g c = record {
+  text = c.as_bytes.result.now;
+  promised = record {
+    file = c.in-Ok.file.items;
+    gave = c.in-Ok.ensures.front;
+    lab = c.in-Ok-read_plain.lab;
+    lab_is = lab_here _ _ _ _ _ _ c.requires.fits c.requires.notes c.as_slice.ensures.value c.in-Ok-read_plain.ensures.lab;
+    right = rw c.as_bytes.ensures.value c.in-Ok-match_bytes.ensures.right;
+  };
+  asked = c.in-Ok-match_bytes.ensures.asked;
+  took = c.in-Ok-send.ensures.sent;
+}
