@@ -1,14 +1,19 @@
 // Runs the command of the words over the files of the system.
 #![tactic(auto)]
 
-use axlab_core::axlab;
-use lab_ports::{FolderLibrary, StreamSink};
+use axlab_core::{Status, axlab};
+use history_model::NoMemory;
+use lab_ports::{FolderLibrary, Library, Sink, StreamSink};
+use machine_player::MachinePlayer;
+use memory_player::MemoryPlayer;
+use player_core::{Bench, Side};
+use plug_players::{Builtin, PlugPlayer};
 use std::alloc::Global;
 use std::process::ExitCode;
 use std::rt::Env;
 use std::{env, io};
 
-// The exit status where the list of words can't be made.
+// The exit status where the words or the players can't be held.
 const NO_MEMORY: u8 = 6;
 
 // The words after the program's name.
@@ -20,6 +25,32 @@ fn words_of<R: Env + AllocGlobal>(rt: &R) -> io::Result<Vec<String>> {
     Ok(words)
 }
 
+// Runs the program on a bench that has one player of each kind and every built-in on each side.
+fn run<L: Library, O: Sink, E: Sink>(
+    alloc: Global,
+    words: &Vec<String>,
+    files: &mut L,
+    out: &mut O,
+    err: &mut E,
+) -> Result<Status, NoMemory> {
+    let mut left: Side = Vec::new(alloc);
+    left.push(Box::new(alloc, MemoryPlayer::new(alloc)?)?)?;
+    left.push(Box::new(alloc, MachinePlayer::new(alloc)?)?)?;
+    let mut right: Side = Vec::new(alloc);
+    right.push(Box::new(alloc, MemoryPlayer::new(alloc)?)?)?;
+    right.push(Box::new(alloc, MachinePlayer::new(alloc)?)?)?;
+    for which in Builtin::ALL {
+        left.push(Box::new(alloc, PlugPlayer::new(which))?)?;
+        right.push(Box::new(alloc, PlugPlayer::new(which))?)?;
+    }
+    let mut bench = Bench { left, right };
+    // This bench fits. The test tells the call so.
+    if !bench.fits() {
+        return Err(NoMemory);
+    }
+    Ok(axlab(alloc, words, files, out, err, &mut bench))
+}
+
 fn main(rt: HostRuntime) -> ExitCode {
     let alloc = rt.alloc();
     let Ok(words) = words_of(&rt) else {
@@ -28,6 +59,8 @@ fn main(rt: HostRuntime) -> ExitCode {
     let mut out = StreamSink::new(rt.stdout());
     let mut err = StreamSink::new(rt.stderr());
     let mut files = FolderLibrary::new(rt);
-    let status = axlab(alloc, &words, &mut files, &mut out, &mut err);
-    ExitCode::from(status.number())
+    match run(alloc, &words, &mut files, &mut out, &mut err) {
+        Ok(status) => ExitCode::from(status.number()),
+        Err(NoMemory) => ExitCode::from(NO_MEMORY),
+    }
 }
