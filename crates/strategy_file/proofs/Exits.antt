@@ -17,7 +17,7 @@ use Rattle.strategy_file.specs.Rows.{leaves, exits_of}
 use Rattle.strategy_file.specs.RowsRead.{no_exits, exit_on, exit_set, with_exit, with_room, exit_count, one_if, LeaveThese, AreExits}
 
 -- a state is among the states after one more exactly if it was, or is that one
-among_more : (s k : ℕ) (ks : List ℕ) → list_any (eqb s) (insert_key eqb ks k) ≡ (list_any (eqb s) ks || eqb s k)
+pub among_more : (s k : ℕ) (ks : List ℕ) → list_any (eqb s) (insert_key eqb ks k) ≡ (list_any (eqb s) ks || eqb s k)
 among_more s k ks =
     elim (cases_Bool (list_any (eqb k) ks)) [
       | inl there ↦ rw there (elim (cases_Bool (eqb s k)) [

@@ -50,7 +50,8 @@ exits_more rows row ks es i held distinct at none =
 pub states_more : (start : ℕ) (rows : List Transition) (row : Transition) → states_of start (rows ++ row ∷ []) ≡ with_states (states_of start rows) row
 states_more start rows row = fold-append with_states (start ∷ []) rows (row ∷ [])
 
-none_from : {X : Type 0} (found : Option X) → is_some found ≡ false → found ≡ None
+-- what is not there
+pub none_from : {X : Type 0} (found : Option X) → is_some found ≡ false → found ≡ None
 none_from None none = refl
 none_from (Some x) none = absurd (true≢false none)
 

@@ -1,3 +1,4 @@
 pub mod Exits
+pub mod Follows
 pub mod Held
 pub mod TomlRows

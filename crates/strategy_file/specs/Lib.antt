@@ -1,5 +1,6 @@
 pub mod FileName
 pub mod Rows
+pub mod RowsLaw
 pub mod RowsRead
 pub mod SheetOf
 pub mod Sheets

@@ -5,6 +5,7 @@
 mod draft;
 mod entry;
 mod file_name;
+pub mod laws;
 mod machine;
 mod sheets;
 mod states;
