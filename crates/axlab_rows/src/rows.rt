@@ -1,6 +1,10 @@
 //! The worked rows of the top call, over files and sinks in memory.
 use axlab_core::{Status, axlab};
 use lab_ports::{FileRole, MemoryFile, MemoryLibrary, MemorySink, Refusal};
+use machine_player::MachinePlayer;
+use memory_player::MemoryPlayer;
+use player_core::{Bench, Side};
+use plug_players::{Builtin, PlugPlayer};
 use std::alloc::Global;
 use std::test::Fail;
 
@@ -18,6 +22,29 @@ const COOPERATOR_REPORT: &str =
 
 const USAGE: &str =
     "usage: axlab COMMAND LAB\n       axlab resume LAB ROWS\n       axlab check LAB CERT\n       axlab drill NUMBER\nCOMMAND: match tournament rota board moran best mean certificate summary\n";
+
+const ECHOES: &str =
+    "version = 1\n[[entry]]\nname = \"tft\"\nkind = \"plug\"\nplug = \"Tit For Tat\"\n[match]\nleft = \"tft\"\nright = \"tft\"\nturns = 200\n";
+
+const ECHOES_REPORT: &str =
+    "axlab|1|match\ngame|3|0|5|1|dilemma|yes\nnoise|0|1\nmatch|tft|tft|200|600.000000000000|600.000000000000|level|sure|200|200|200|0|0|0\nend\n";
+
+const TRUSTING: &str =
+    "version = 1\n[[entry]]\nname = \"coop\"\nkind = \"plug\"\nplug = \"Cooperator\"\n[[entry]]\nname = \"defector\"\nkind = \"plug\"\nplug = \"Defector\"\n[match]\nleft = \"coop\"\nright = \"defector\"\nturns = 1\n";
+
+// Plays CC, CD, DC and DD.
+const GRUDGE: &str =
+    "version = 1\n[[entry]]\nname = \"grudger\"\nkind = \"plug\"\nplug = \"Grudger\"\n[[entry]]\nname = \"alternator\"\nkind = \"plug\"\nplug = \"Alternator\"\n[match]\nleft = \"grudger\"\nright = \"alternator\"\nturns = 4\n";
+
+const GRUDGE_REPORT: &str =
+    "axlab|1|match\ngame|3|0|5|1|dilemma|yes\nnoise|0|1\nmatch|grudger|alternator|4|9.000000000000|9.000000000000|level|sure|2|2|1|1|1|1\nend\n";
+
+// A machine that repeats the other's last move.
+const MACHINE: &str =
+    "version = 1\n[[entry]]\nname = \"echo\"\nkind = \"machine\"\nstart = 0\nopening = \"C\"\nrows = [[0, \"C\", 0, \"C\"], [0, \"D\", 0, \"D\"]]\n[[entry]]\nname = \"defector\"\nkind = \"plug\"\nplug = \"Defector\"\n[match]\nleft = \"echo\"\nright = \"defector\"\nturns = 5\n";
+
+const MACHINE_REPORT: &str =
+    "axlab|1|match\ngame|3|0|5|1|dilemma|yes\nnoise|0|1\nmatch|echo|defector|5|4.000000000000|9.000000000000|right|sure|1|0|0|1|0|4\nend\n";
 
 /// How a call of the program ended, as plain values.
 #[derive(Drop)]
@@ -65,7 +92,21 @@ fn run(alloc: Global, line: &str, around: Around<'_>) -> Result<Ran, Fail> {
     let mut library = MemoryLibrary::new(files, numbers(alloc, around.failing_read)?);
     let mut out = MemorySink::new(alloc, around.room, numbers(alloc, around.failing_write)?)?;
     let mut err = MemorySink::new(alloc, 1000, Vec::new(alloc))?;
-    let status = axlab(alloc, &words, &mut library, &mut out, &mut err);
+    let mut left: Side = Vec::new(alloc);
+    let mut right: Side = Vec::new(alloc);
+    left.push(Box::new(alloc, MemoryPlayer::new(alloc)?)?)?;
+    right.push(Box::new(alloc, MemoryPlayer::new(alloc)?)?)?;
+    left.push(Box::new(alloc, MachinePlayer::new(alloc)?)?)?;
+    right.push(Box::new(alloc, MachinePlayer::new(alloc)?)?)?;
+    for which in Builtin::ALL {
+        left.push(Box::new(alloc, PlugPlayer::new(which))?)?;
+        right.push(Box::new(alloc, PlugPlayer::new(which))?)?;
+    }
+    let mut bench = Bench { left, right };
+    if !bench.fits() {
+        return Err(Fail::from("the bench doesn't fit"));
+    }
+    let status = axlab(alloc, &words, &mut library, &mut out, &mut err, &mut bench);
     Ok(Ran {
         status,
         out: out.bytes,
@@ -75,8 +116,15 @@ fn run(alloc: Global, line: &str, around: Around<'_>) -> Result<Ran, Fail> {
 }
 
 #[test]
-fn plays_the_first_match(rt: HostRuntime) -> Result<(), Fail> {
-    let rows = [(LAB, REPORT), (COOPERATOR, COOPERATOR_REPORT)];
+fn plays_sure_matches(rt: HostRuntime) -> Result<(), Fail> {
+    let rows = [
+        (LAB, REPORT),
+        (COOPERATOR, COOPERATOR_REPORT),
+        (ECHOES, ECHOES_REPORT),
+        (TRUSTING, COOPERATOR_REPORT),
+        (GRUDGE, GRUDGE_REPORT),
+        (MACHINE, MACHINE_REPORT),
+    ];
     for (text, report) in rows {
         let ran = run(rt.alloc(), "match lab", Around { text, ..CALM })?;
         assert_eq!(rt; ran.status, Status::Answered);

@@ -1,0 +1,128 @@
+//! A bench is tested before a game: by the players' automata, not by their names.
+use history_model::{Move, Name};
+use machine_player::MachinePlayer;
+use memory_player::MemoryPlayer;
+use player_core::{Bench, Kind, Player, Sheet, Side, no_name, tabulate};
+use plug_players::{Builtin, PlugPlayer};
+use std::alloc::Global;
+use std::marker::Model;
+use std::test::Fail;
+
+/// A player that repeats the other's last move. Row 0 plays C and row 1 plays D, and either may be
+/// its start.
+#[derive(Drop)]
+struct Echo {
+    start: u32,
+    mark: u32,
+    turns: u64,
+    returns: u64,
+}
+
+impl Model for Echo {
+    ghost use Rattle.std.specs.Prelude.{[], ◌∷◌};
+    ghost use Rattle.player_core.specs.declared.kind.Kind.TheVariants.{Plug};
+    ghost use Rattle.player_core.specs.State.{PlayerState, IsState, no_name};
+
+    ghost Value = { PlayerState };
+
+    ghost view = { λ p. record { lasting = record { kind = Plug; name = no_name; automaton = record { den = 1; start = p.start; rows = record { weight = 1; cc = 0; cd = 1; dc = 0; dd = 1 } ∷ record { weight = 0; cc = 0; cd = 1; dc = 0; dd = 1 } ∷ [] } }; mark = p.mark; turns = p.turns; returns = p.returns } };
+
+    ghost invariant = { λ p. IsState (record { lasting = record { kind = Plug; name = no_name; automaton = record { den = 1; start = p.start; rows = record { weight = 1; cc = 0; cd = 1; dc = 0; dd = 1 } ∷ record { weight = 0; cc = 0; cd = 1; dc = 0; dd = 1 } ∷ [] } }; mark = p.mark; turns = p.turns; returns = p.returns }) };
+}
+
+impl Player for Echo {
+    ghost state = { λ p. p };
+
+    fn kind(&self) -> Kind {
+        let _mark = self.mark;
+        Kind::Plug
+    }
+
+    fn name(&self) -> Name {
+        let _mark = self.mark;
+        no_name()
+    }
+
+    fn load(&mut self, sheet: &Sheet) {
+        let _kind = sheet.kind;
+        self.mark = self.start;
+    }
+
+    fn rows(&self) -> u32 {
+        let _mark = self.mark;
+        2
+    }
+
+    fn start(&self) -> u32 {
+        self.start
+    }
+
+    fn den(&self) -> u32 {
+        let _mark = self.mark;
+        1
+    }
+
+    fn weight(&self) -> u32 {
+        if self.mark == 0 { 1 } else { 0 }
+    }
+
+    fn advance(&mut self, mine: Move, theirs: Move) {
+        self.mark = match (mine, theirs) {
+            (Move::C, Move::C) | (Move::D, Move::C) => 0,
+            (Move::C, Move::D) | (Move::D, Move::D) => 1,
+        };
+        self.turns = self.turns.saturating_add(1);
+    }
+
+    fn save(&self) -> u32 {
+        self.mark
+    }
+
+    fn resume(&mut self, mark: u32) {
+        self.mark = mark;
+        self.returns = self.returns.saturating_add(1);
+    }
+
+    fn advances(&self) -> u64 {
+        self.turns
+    }
+
+    fn resumes(&self) -> u64 {
+        self.returns
+    }
+}
+
+// Whether a bench fits whose second plugs are echoes with these starts, and whether each mark is at
+// its start after that test.
+fn fits_with(alloc: Global, left_start: u32, right_start: u32) -> Result<(bool, bool), Fail> {
+    let mut left: Side = Vec::new(alloc);
+    let mut right: Side = Vec::new(alloc);
+    for (side, start) in [(&mut left, left_start), (&mut right, right_start)] {
+        side.push(Box::new(alloc, MemoryPlayer::new(alloc)?)?)?;
+        side.push(Box::new(alloc, MachinePlayer::new(alloc)?)?)?;
+        side.push(Box::new(alloc, PlugPlayer::new(Builtin::Alternator))?)?;
+        let echo = Echo {
+            start,
+            mark: 1 - start,
+            turns: 0,
+            returns: 0,
+        };
+        side.push(Box::new(alloc, echo)?)?;
+    }
+    left[2].advance(Move::C, Move::C);
+    let mut bench = Bench { left, right };
+    let fits = bench.fits();
+    let mut all_start = true;
+    for player in bench.left.iter().chain(&bench.right) {
+        all_start &= player.save() == player.start();
+    }
+    Ok((fits, all_start))
+}
+
+#[test]
+fn plugs_that_start_apart_do_not_fit(rt: HostRuntime) -> Result<(), Fail> {
+    assert_eq!(rt; fits_with(rt.alloc(), 0, 1)?, (false, true));
+    assert_eq!(rt; fits_with(rt.alloc(), 1, 0)?, (false, true));
+    assert_eq!(rt; fits_with(rt.alloc(), 0, 0)?, (true, true));
+    Ok(())
+}
