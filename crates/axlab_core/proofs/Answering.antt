@@ -1,5 +1,5 @@
 -- The lab that was read is the lab of the file, over the bench's plugs.
-use Rattle.std.proofs.Common.{◌≡◌, ℕ, List, Result, Ok, ◌∙◌, sym, ap}
+use Rattle.std.proofs.Common.{◌≡◌, ℕ, List, Result, ◌∙◌, sym, ap}
 use Rattle.player_core.specs.State.{Lasting}
 use Rattle.player_core.specs.declared.bench.PlugNote.{PlugNote}
 use Rattle.player_core.specs.Bench.{notes_of}

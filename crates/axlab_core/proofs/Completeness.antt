@@ -1,23 +1,18 @@
 -- What is held must be answered, refused or missed so, unless memory or a port fails.
-use Rattle.std.proofs.Common.{◌≡◌, ◌⊎◌, ℕ, ◌≤◌, ◌+◌, List, length, take, Option, Some, None, option_map, Result, Ok, Err, nat_lt, true, refl, sym, ◌∙◌, ap, inl, inr, arith}
+use Rattle.std.proofs.Common.{◌≡◌, ◌⊎◌, ℕ, List, length, take, Option, Some, None, option_map, Ok, Err, nat_lt, true, refl, sym, ◌∙◌, ap, inl, inr, arith}
 use Rattle.std.proofs.lemmas.List.{take_all, length-take-le}
 use Rattle.std.proofs.lemmas.Bool.{cases_Bool}
 use Rattle.std.proofs.lemmas.Bool.Decides.{nat_tests}
 use Rattle.lab_ports.specs.Causes.{Rose}
-use Rattle.lab_ports.specs.Holding.{Holding, IsFront, IsMissing, file_of}
+use Rattle.lab_ports.specs.Holding.{Holding, IsMissing, file_of}
 use Rattle.lab_ports.specs.declared.refusal.Refusal.{Refusal}
-use Rattle.lab_ports.specs.declared.refusal.Refusal.TheVariants.{TooLong}
-use Rattle.lab_ports.specs.declared.refusal.FileRole.TheVariants.{Lab}
-use Rattle.lab_file.specs.declared.entries.PlainLab.{PlainLab}
 use Rattle.player_core.specs.State.{Lasting}
-use Rattle.player_core.specs.Bench.{notes_of}
-use Rattle.lab_file.specs.Plain.{plain_lab}
 use Rattle.axlab_core.specs.Sides.{Turns}
 use Rattle.axlab_core.specs.declared.words.Form.{Form}
 use Rattle.axlab_core.specs.declared.words.Form.TheVariants.{Match, Unbuilt, Faulty}
 use Rattle.axlab_core.specs.declared.status.Status.{Status}
 use Rattle.axlab_core.specs.declared.status.Status.TheVariants.{Answered, Denied, Usage, ReadFault, Refused, WriteFault, NoMemory}
-use Rattle.axlab_core.specs.Complete.{HoldsFile, HoldsLab, HoldsRefused, LacksLab, IsStatusOrMemory}
+use Rattle.axlab_core.specs.Complete.{HoldsLab, HoldsRefused, LacksLab, IsStatusOrMemory}
 use Rattle.axlab_core.specs.Outcome.{OnAnswered, OnReadFault, OnWriteFault, IfRefused, IfDenied}
 use Rattle.axlab_core.specs.Right.{lab_of, WhyRefused, WhyUnread, RefusesFile, GaveLab, IsPromised, Wrote, WrotePart}
 

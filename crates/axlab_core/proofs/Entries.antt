@@ -1,5 +1,5 @@
 -- What a sound lab's entries are on a bench.
-use Rattle.std.proofs.Common.{◌≡◌, ◌⊎◌, ℕ, zero, suc, ◌+◌, ◌*◌, ◌≤◌, ◌<◌, ◌≢◌, Bool, true, false, All, List, [], ◌∷◌, map, drop, length, slice_get, get_or, Some, None, sum, refl, sym, ◌∙◌, ap, subst, inl, inr, arith}
+use Rattle.std.proofs.Common.{◌≡◌, ℕ, suc, ◌+◌, ◌<◌, ◌≢◌, true, All, List, [], ◌∷◌, map, drop, length, slice_get, get_or, Some, sym, ◌∙◌, ap, subst, inl, inr, arith}
 use Rattle.std.proofs.lemmas.Bool.{cases_Bool}
 use Rattle.std.proofs.lemmas.List.{get_or-drop, length-drop}
 use Rattle.std.proofs.lemmas.Option.{slice_get_cases}
@@ -13,7 +13,6 @@ use Rattle.player_core.specs.AutomatonOf.{automaton_by}
 use Rattle.player_core.specs.Fits.{Fits, NoPlugNamed, first_plug}
 use Rattle.player_core.specs.Entry.{automaton_named, plug_automaton, entry_automaton}
 use Rattle.player_core.specs.Bench.{is_sure, note_of, notes_of}
-use Rattle.player_core.specs.Counts.{Grew}
 use Rattle.player_core.specs.Laws.{SureIsTested}
 use Rattle.history_model.specs.Automaton.{IsSure}
 use Rattle.player_core.specs.declared.bench.PlugNote.{PlugNote}
@@ -22,7 +21,6 @@ use Rattle.lab_file.specs.declared.entries.PlainEntry.{PlainEntry}
 use Rattle.lab_file.specs.declared.entries.PlainLab.{PlainLab}
 use Rattle.lab_file.specs.Plain.{IsSound, IsSureEntry}
 use Rattle.lab_file.specs.Sure.{plug_is_sure, sure_by, sheet_is_sure}
-use Rattle.axlab_core.specs.Sides.{Turns, MadeTurns}
 
 -- an entry of a sound lab is sure
 entry_sure : (notes : List PlugNote) (entries : List PlainEntry) (place : ℕ) (entry : PlainEntry) → All (IsSureEntry notes) entries
@@ -30,10 +28,10 @@ entry_sure : (notes : List PlugNote) (entries : List PlainEntry) (place : ℕ) (
 entry_sure notes entries place entry all is =
     elim ((slice_get_cases entries place).1) [
       | inl found ↦
-      let same : found.0 ≡ entry = cc in
-      let here : get_or entries place found.0 ≡ entry = found.3 ∙ same in
-      let P : PlainEntry → Type 0 = λ e. IsSureEntry notes e in
-      subst P here (all place found.0 found.1)
+          let same : found.0 ≡ entry = cc in
+          let here : get_or entries place found.0 ≡ entry = found.3 ∙ same in
+          let P : PlainEntry → Type 0 = λ e. IsSureEntry notes e in
+          subst P here (all place found.0 found.1)
       | inr none ↦ absurd (cc)
     ]
 
@@ -94,18 +92,6 @@ sheet_known players sheet h = record {
   placeable = not_lookup sheet.kind (notes_of players) sheet h;
   named = unnamed players sheet h;
 }
-
--- both sides made so many advances
-pub both_made : (turns j : ℕ) (left left_now right right_now : List ℕ) → j ≤ turns → Grew turns left left_now → Grew turns right right_now
-    → MadeTurns (2 * j) (record { left = left; right = right }) (record { left = left_now; right = right_now })
-both_made turns j left left_now right right_now within l r =
-    elim l.total [
-      | inr full ↦ inr (inl full)
-      | inl a ↦ elim r.total [
-        | inr full ↦ inr (inr full)
-        | inl b ↦ inl (omega arith)
-      ]
-    ]
 
 -- the entries of a sound lab's match play sure automata, and have their players
 pub entry_plays_sure : SureIsTested → (players right : List Lasting) (lab : PlainLab) (place : ℕ) (entry : PlainEntry) → Fits players right → IsSound (notes_of players) lab

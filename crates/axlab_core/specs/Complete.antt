@@ -1,5 +1,5 @@
 -- When the program must answer, refuse, or fail to read. Want of memory is always free.
-use Rattle.std.specs.Prelude.{◌≡◌, ◌⊎◌, ℕ, List, Option, Some, None, Result, Ok, Err}
+use Rattle.std.specs.Prelude.{◌≡◌, ◌⊎◌, ℕ, List, Option, Some, None, Ok, Err}
 use Rattle.lab_file.specs.declared.entries.PlainLab.{PlainLab}
 use Rattle.lab_ports.specs.declared.refusal.Refusal.{Refusal}
 use Rattle.player_core.specs.State.{Lasting}
@@ -8,7 +8,7 @@ use Rattle.axlab_core.specs.Right.{lab_of}
 use Rattle.axlab_core.specs.declared.words.Form.{Form}
 use Rattle.axlab_core.specs.declared.words.Form.TheVariants.{Match}
 use Rattle.axlab_core.specs.declared.status.Status.{Status}
-use Rattle.axlab_core.specs.declared.status.Status.TheVariants.{Answered, ReadFault, Refused, NoMemory}
+use Rattle.axlab_core.specs.declared.status.Status.TheVariants.{NoMemory}
 
 -- the words are `match` and a lab, and the library tells that it holds these bytes under the lab's name
 pub record HoldsFile (form : Form) (name : List ℕ) (holding : Option Holding) (bytes : List ℕ) : Type 0 where

@@ -1,4 +1,3 @@
-use Rattle.std.proofs.Common.{◌≡◌}
 use Rattle.axlab_core.proofs.Answering.{lab_here}
 use Rattle.axlab_core.proofs.run.answer_match.Goals as goal
 
