@@ -1,5 +1,6 @@
-//! A bench is tested before a game: by the players' automata, not by their names.
-use history_model::{Move, Name};
+//! A bench is tested before a game, by the players' automata and not by their names alone, and a
+//! player's automaton is read by asking it.
+use history_model::{GridRow, Move, Name};
 use machine_player::MachinePlayer;
 use memory_player::MemoryPlayer;
 use player_core::{Bench, Kind, Player, Sheet, Side, no_name, tabulate};
@@ -124,5 +125,33 @@ fn plugs_that_start_apart_do_not_fit(rt: HostRuntime) -> Result<(), Fail> {
     assert_eq!(rt; fits_with(rt.alloc(), 0, 1)?, (false, true));
     assert_eq!(rt; fits_with(rt.alloc(), 1, 0)?, (false, true));
     assert_eq!(rt; fits_with(rt.alloc(), 0, 0)?, (true, true));
+    Ok(())
+}
+
+#[test]
+fn asking_an_echo_gives_its_rows(rt: HostRuntime) -> Result<(), Fail> {
+    let mut player: Box<dyn Player> = Box::new(
+        rt.alloc(),
+        Echo {
+            start: 1,
+            mark: 0,
+            turns: 0,
+            returns: 0,
+        },
+    )?;
+    let grid = tabulate(rt.alloc(), &mut player)?;
+    let cooperates = GridRow {
+        weight: 1,
+        next: [0, 1, 0, 1],
+    };
+    let defects = GridRow {
+        weight: 0,
+        ..cooperates
+    };
+    assert_eq!(rt; grid.rows.as_slice(), [cooperates, defects].as_slice());
+    assert_eq!(rt; (grid.den, grid.start), (1, 1));
+    // One advance for each row and play.
+    assert_eq!(rt; player.advances(), 8);
+    assert_eq!(rt; player.save(), 1);
     Ok(())
 }
