@@ -1,5 +1,5 @@
 -- One entry more of an array of tables.
-use Rattle.std.proofs.Common.{◌≡◌, ℕ, suc, ◌+◌, ◌<◌, Bool, false, is_some, List, [], ◌∷◌, ◌++◌, length, drop, get_or, Option, Some, None, option_and_then, if◌then◌else◌, refl, sym, ◌∙◌, ap, arith, add-one, drop-cons}
+use Rattle.std.proofs.Common.{◌≡◌, ℕ, suc, ◌+◌, ◌<◌, Bool, false, is_some, List, [], ◌∷◌, ◌++◌, length, drop, get_or, Option, Some, None, option_and_then, if◌then◌else◌, sym, ◌∙◌, ap, add-one, drop-cons}
 use Rattle.toml.specs.declared.value.Value.{Value}
 use Rattle.toml.specs.View.{view, items_view}
 use Rattle.player_core.specs.declared.bench.PlugNote.{PlugNote}
