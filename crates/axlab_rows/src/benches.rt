@@ -93,24 +93,31 @@ impl Player for Echo {
     }
 }
 
-// Whether a bench fits whose second plugs are echoes with these starts, and whether each mark is at
-// its start after that test.
-fn fits_with(alloc: Global, left_start: u32, right_start: u32) -> Result<(bool, bool), Fail> {
+// An echo that starts with D, or else with C, and stands at its other row.
+fn starting_with(d: bool) -> Echo {
+    Echo {
+        start: if d { 1 } else { 0 },
+        mark: if d { 0 } else { 1 },
+        turns: 0,
+        returns: 0,
+    }
+}
+
+// Whether a bench fits whose second plugs are these echoes, and whether each mark is at its start
+// after that test.
+fn fits_with(alloc: Global, left_echo: Echo, right_echo: Echo) -> Result<(bool, bool), Fail> {
     let mut left: Side = Vec::new(alloc);
     let mut right: Side = Vec::new(alloc);
-    for (side, start) in [(&mut left, left_start), (&mut right, right_start)] {
-        side.push(Box::new(alloc, MemoryPlayer::new(alloc)?)?)?;
-        side.push(Box::new(alloc, MachinePlayer::new(alloc)?)?)?;
-        side.push(Box::new(alloc, PlugPlayer::new(Builtin::Alternator))?)?;
-        let echo = Echo {
-            start,
-            mark: 1 - start,
-            turns: 0,
-            returns: 0,
-        };
-        side.push(Box::new(alloc, echo)?)?;
-    }
-    left[2].advance(Move::C, Move::C);
+    left.push(Box::new(alloc, MemoryPlayer::new(alloc)?)?)?;
+    right.push(Box::new(alloc, MemoryPlayer::new(alloc)?)?)?;
+    left.push(Box::new(alloc, MachinePlayer::new(alloc)?)?)?;
+    right.push(Box::new(alloc, MachinePlayer::new(alloc)?)?)?;
+    let mut alternator = PlugPlayer::new(Builtin::Alternator);
+    alternator.advance(Move::C, Move::C);
+    left.push(Box::new(alloc, alternator)?)?;
+    right.push(Box::new(alloc, PlugPlayer::new(Builtin::Alternator))?)?;
+    left.push(Box::new(alloc, left_echo)?)?;
+    right.push(Box::new(alloc, right_echo)?)?;
     let mut bench = Bench { left, right };
     let fits = bench.fits();
     let mut all_start = true;
@@ -122,23 +129,24 @@ fn fits_with(alloc: Global, left_start: u32, right_start: u32) -> Result<(bool, 
 
 #[test]
 fn plugs_that_start_apart_do_not_fit(rt: HostRuntime) -> Result<(), Fail> {
-    assert_eq!(rt; fits_with(rt.alloc(), 0, 1)?, (false, true));
-    assert_eq!(rt; fits_with(rt.alloc(), 1, 0)?, (false, true));
-    assert_eq!(rt; fits_with(rt.alloc(), 0, 0)?, (true, true));
+    assert_eq!(rt;
+        fits_with(rt.alloc(), starting_with(false), starting_with(true))?,
+        (false, true)
+    );
+    assert_eq!(rt;
+        fits_with(rt.alloc(), starting_with(true), starting_with(false))?,
+        (false, true)
+    );
+    assert_eq!(rt;
+        fits_with(rt.alloc(), starting_with(false), starting_with(false))?,
+        (true, true)
+    );
     Ok(())
 }
 
 #[test]
 fn asking_an_echo_gives_its_rows(rt: HostRuntime) -> Result<(), Fail> {
-    let mut player: Box<dyn Player> = Box::new(
-        rt.alloc(),
-        Echo {
-            start: 1,
-            mark: 0,
-            turns: 0,
-            returns: 0,
-        },
-    )?;
+    let mut player: Box<dyn Player> = Box::new(rt.alloc(), starting_with(true))?;
     let grid = tabulate(rt.alloc(), &mut player)?;
     let cooperates = GridRow {
         weight: 1,
