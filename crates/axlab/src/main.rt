@@ -3,7 +3,7 @@
 
 use axlab_core::{Status, axlab};
 use history_model::NoMemory;
-use lab_ports::{FolderLibrary, Library, Sink, StreamSink};
+use lab_ports::{FolderLibrary, Library, Sink, StreamSink, send};
 use machine_player::MachinePlayer;
 use memory_player::MemoryPlayer;
 use player_core::{Bench, Side};
@@ -13,8 +13,8 @@ use std::process::ExitCode;
 use std::rt::Env;
 use std::{env, io};
 
-// The exit status where the words or the players can't be held.
-const NO_MEMORY: u8 = 6;
+// What is told where the words or the players can't be held.
+const NO_MEMORY: &[u8] = b"axlab: no memory\n";
 
 // The words after the program's name.
 fn words_of<R: Env + AllocGlobal>(rt: &R) -> io::Result<Vec<String>> {
@@ -53,14 +53,20 @@ fn run<L: Library, O: Sink, E: Sink>(
 
 fn main(rt: HostRuntime) -> ExitCode {
     let alloc = rt.alloc();
-    let Ok(words) = words_of(&rt) else {
-        return ExitCode::from(NO_MEMORY);
-    };
+    let words = words_of(&rt);
     let mut out = StreamSink::new(rt.stdout());
     let mut err = StreamSink::new(rt.stderr());
     let mut files = FolderLibrary::new(rt);
-    match run(alloc, &words, &mut files, &mut out, &mut err) {
-        Ok(status) => ExitCode::from(status.number()),
-        Err(NoMemory) => ExitCode::from(NO_MEMORY),
-    }
+    let ended = match words {
+        Ok(words) => run(alloc, &words, &mut files, &mut out, &mut err),
+        Err(_) => Err(NoMemory),
+    };
+    let status = match ended {
+        Ok(status) => status,
+        Err(NoMemory) => {
+            let _ = send(&mut err, NO_MEMORY);
+            Status::NoMemory
+        }
+    };
+    ExitCode::from(status.number())
 }
