@@ -1,5 +1,5 @@
 -- A player of a side takes a sheet, and then plays a match.
-use Rattle.std.proofs.Common.{◌≡◌, ℕ, ◌+◌, ◌-◌, ◌^◌, ◌<◌, List, length, map, slice_set, sym, ◌∙◌, ap, subst, arith, refl, get_or-set_same, length-set}
+use Rattle.std.proofs.Common.{◌≡◌, ℕ, zero, suc, [], ◌∷◌, ◌+◌, ◌^◌, ◌<◌, List, length, slice_set, sym, ◌∙◌, ap, subst, arith, refl, get_or-set_same, length-set}
 use Rattle.std.proofs.lemmas.List.{length-map}
 use Rattle.history_model.specs.declared.tally.Tally.{Tally}
 use Rattle.history_model.specs.Automaton.{Automaton, IsSure}
@@ -7,11 +7,12 @@ use Rattle.history_model.specs.History.{History}
 use Rattle.history_model.specs.Path.{match_path}
 use Rattle.history_model.specs.Tally.{counts, total, CountsArePaid}
 use Rattle.player_core.specs.State.{PlayerState, Lasting, IsState, more, state_at, lasting_at, lasting_of}
-use Rattle.player_core.specs.Sheet.{SheetData}
+use Rattle.player_core.specs.Sheet.{SheetData, Takes}
 use Rattle.player_core.specs.AutomatonOf.{automaton_of, loaded}
 use Rattle.player_core.specs.Bench.{KeepsPlugs}
-use Rattle.player_core.specs.Counts.{Advanced, Grew, turns_of}
+use Rattle.player_core.specs.Counts.{Advanced, turns_of}
 use Rattle.player_core.specs.Laws.{CountsAddUp, KeepingLasts, OneChange}
+use Rattle.match_play.specs.Match.{after_match, HasPlayed}
 
 pub record SideMoved (old mid new : List PlayerState) (k turns : ℕ) (sheet : SheetData) (after : PlayerState) : Type 0 where
   pub inside : k < length old
@@ -76,3 +77,33 @@ side_advanced change adding old mid new k turns sheet after moved =
 -- the turns of a match are counted
 pub counted_on : (count turns : ℕ) (history : History) → length history ≡ turns → more count (length history) ≡ more count turns
 counted_on count turns history long = ap (λ n. more count n) long
+
+-- a place that changes twice in a row keeps the last
+set_again : (states : List PlayerState) (k : ℕ) (first second : PlayerState) → slice_set (slice_set states k first) k second ≡ slice_set states k second
+set_again [] k first second = refl
+set_again (state ∷ rest) zero first second = refl
+set_again (state ∷ rest) (suc k) first second = ap (λ (states : List PlayerState). state ∷ states) (set_again rest k first second)
+
+-- the player that takes the sheet, and nobody else, has played
+side_after : (old mid new : List PlayerState) (k : ℕ) (sheet : SheetData) (seen history : History) → k < length old
+    → mid ≡ slice_set old k (loaded (state_at old k) sheet) → new ≡ slice_set mid k (after_match (state_at mid k) seen) → seen ≡ history
+    → new ≡ slice_set old k (after_match (loaded (state_at old k) sheet) history)
+side_after old mid new k sheet seen history inside load played same =
+    played
+    ∙ ap (λ (state : PlayerState). slice_set mid k (after_match state seen)) (loaded_there old mid k sheet inside load)
+    ∙ ap (λ (states : List PlayerState). slice_set states k (after_match (loaded (state_at old k) sheet) seen)) load
+    ∙ set_again old k (loaded (state_at old k) sheet) (after_match (loaded (state_at old k) sheet) seen)
+    ∙ ap (λ (h : History). slice_set old k (after_match (loaded (state_at old k) sheet) h)) same
+
+pub same_path : (a a' b b' : Automaton) (n : ℕ) → a ≡ a' → b ≡ b' → match_path a b n ≡ match_path a' b' n
+same_path a a' b b' n ea eb = ap (λ x. match_path x b n) ea ∙ ap (λ y. match_path a' y n) eb
+
+pub has_played : OneChange → (old mid new : List PlayerState) (k : ℕ) (sheet : SheetData) (seen history : History) → k < length old
+    → mid ≡ slice_set old k (loaded (state_at old k) sheet) → new ≡ slice_set mid k (after_match (state_at mid k) seen) → seen ≡ history
+    → Takes (lasting_at (lasting_of old) k) sheet → HasPlayed old new sheet history
+has_played change old mid new k sheet seen history inside load played same takes = record {
+  place = k;
+  inside = inside;
+  takes = let P : Lasting → Type 0 = λ l. Takes l sheet in subst P (change.read old k) takes;
+  after = side_after old mid new k sheet seen history inside load played same;
+}

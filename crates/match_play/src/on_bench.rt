@@ -10,7 +10,7 @@ ghost use Rattle.player_core.specs.Entry.{entry_automaton};
 ghost use Rattle.player_core.specs.Bench.{KeepsPlugs};
 ghost use Rattle.player_core.specs.Counts.{Advanced};
 ghost use Rattle.match_play.specs.Known.{IsKnown};
-ghost use Rattle.match_play.specs.Match.{after_match};
+ghost use Rattle.match_play.specs.Match.{after_match, HasPlayed};
 
 use crate::play;
 use history_model::{Tally, counts_are_paid};
@@ -48,8 +48,9 @@ fn place_of(bench: &Bench, sheet: &Sheet) -> usize
 }
 
 /// Plays a match of at most 10^12 turns between the players that take two sure sheets: each is given
-/// its sheet, and then they play every turn. The bench goes on fitting with the same plugs, and each
-/// side makes exactly `turns` advances. Takes no memory.
+/// its sheet, and then they play every turn from their starts. All other players stay as they are, so
+/// the bench goes on fitting with the same plugs, and each side makes exactly `turns` advances. Takes
+/// no memory.
 pub fn play_sheets(bench: &mut Bench, left: &Sheet, right: &Sheet, turns: u64) -> Tally
     requires fits { Fits (lasting_of (⟦<Side as Seats>⟧.seats bench.old.left)) (lasting_of (⟦<Side as Seats>⟧.seats bench.old.right)) }
     requires left_known { IsKnown (lasting_of (⟦<Side as Seats>⟧.seats bench.old.left)) left.now }
@@ -59,6 +60,8 @@ pub fn play_sheets(bench: &mut Bench, left: &Sheet, right: &Sheet, turns: u64) -
     requires turns { turns ≤ 10 ^ 12 }
     ensures tally { result ≡ counts (match_path (entry_automaton (lasting_of (⟦<Side as Seats>⟧.seats bench.old.left)) left.now) (entry_automaton (lasting_of (⟦<Side as Seats>⟧.seats bench.old.left)) right.now) turns) }
     ensures total { total result ≡ turns }
+    ensures left_played { HasPlayed (⟦<Side as Seats>⟧.seats bench.old.left) (⟦<Side as Seats>⟧.seats bench.new.left) left.now (match_path (entry_automaton (lasting_of (⟦<Side as Seats>⟧.seats bench.old.left)) left.now) (entry_automaton (lasting_of (⟦<Side as Seats>⟧.seats bench.old.left)) right.now) turns) }
+    ensures right_played { HasPlayed (⟦<Side as Seats>⟧.seats bench.old.right) (⟦<Side as Seats>⟧.seats bench.new.right) right.now (turned (match_path (entry_automaton (lasting_of (⟦<Side as Seats>⟧.seats bench.old.left)) left.now) (entry_automaton (lasting_of (⟦<Side as Seats>⟧.seats bench.old.left)) right.now) turns)) }
     ensures fits { Fits (lasting_of (⟦<Side as Seats>⟧.seats bench.new.left)) (lasting_of (⟦<Side as Seats>⟧.seats bench.new.right)) }
     ensures left_kept { KeepsPlugs (lasting_of (⟦<Side as Seats>⟧.seats bench.old.left)) (lasting_of (⟦<Side as Seats>⟧.seats bench.new.left)) }
     ensures right_kept { KeepsPlugs (lasting_of (⟦<Side as Seats>⟧.seats bench.old.right)) (lasting_of (⟦<Side as Seats>⟧.seats bench.new.right)) }

@@ -1,6 +1,7 @@
-use Rattle.std.proofs.Common.{◌∙◌, refl}
+use Rattle.std.proofs.Common.{◌∙◌, ap, refl}
+use Rattle.history_model.specs.History.{turned}
 use Rattle.std.proofs.lemmas.List.{length-map}
-use Rattle.match_play.proofs.Moving.{inside_states, counted_on, loaded_plays, is_sure_too, same_tally, as_long, side_kept, side_advanced}
+use Rattle.match_play.proofs.Moving.{inside_states, counted_on, loaded_plays, is_sure_too, same_tally, same_path, has_played, as_long, side_kept, side_advanced}
 use Rattle.match_play.proofs.on_bench.play_sheets.Goals as goal
 
 pub play_at-requires-clause-sure_left : goal.play_at-requires-clause-sure_left
@@ -73,3 +74,23 @@ returns-clause-right_advanced g c = side_advanced c.one_change.ensures c.counts_
 pub returns-clause-fits : goal.returns-clause-fits
 returns-clause-fits g c =
     c.keeping_lasts.ensures.fits _ _ _ _ (returns-clause-left_kept g c) (returns-clause-right_kept g c) c.requires.fits
+
+pub returns-clause-left_played : goal.returns-clause-left_played
+returns-clause-left_played g c =
+    has_played c.one_change.ensures _ _ _ c.place_of-i.result c.args.left.now _ _ (inside_states _ _ c.place_of-i.ensures.left_inside) c.load.ensures.left c.play_at.ensures.left
+    (same_path _ _ _ _ _
+    (loaded_plays c.one_change.ensures _ _ _ c.args.left.now (inside_states _ _ c.place_of-i.ensures.left_inside) c.load.ensures.left
+    ∙ c.entries_play.ensures.left _ _ _ _ c.requires.fits c.requires.left_known.placeable c.place_of-i.ensures)
+    (loaded_plays c.one_change.ensures _ _ _ c.args.right.now (inside_states _ _ c.place_of-j.ensures.right_inside) c.load.ensures.right
+    ∙ c.entries_play.ensures.right _ _ _ _ c.requires.fits c.requires.right_known.placeable c.place_of-j.ensures))
+    c.place_of-i.ensures.left_takes
+
+pub returns-clause-right_played : goal.returns-clause-right_played
+returns-clause-right_played g c =
+    has_played c.one_change.ensures _ _ _ c.place_of-j.result c.args.right.now _ _ (inside_states _ _ c.place_of-j.ensures.right_inside) c.load.ensures.right c.play_at.ensures.right
+    (ap turned (same_path _ _ _ _ _
+    (loaded_plays c.one_change.ensures _ _ _ c.args.left.now (inside_states _ _ c.place_of-i.ensures.left_inside) c.load.ensures.left
+    ∙ c.entries_play.ensures.left _ _ _ _ c.requires.fits c.requires.left_known.placeable c.place_of-i.ensures)
+    (loaded_plays c.one_change.ensures _ _ _ c.args.right.now (inside_states _ _ c.place_of-j.ensures.right_inside) c.load.ensures.right
+    ∙ c.entries_play.ensures.right _ _ _ _ c.requires.fits c.requires.right_known.placeable c.place_of-j.ensures)))
+    c.place_of-j.ensures.right_takes
