@@ -7,9 +7,9 @@ use Rattle.history_model.specs.declared.moves.Play.{Play}
 use Rattle.history_model.specs.Automaton.{IsAutomaton, row_at, weight_at, next_row, next_of, no_row}
 use Rattle.history_model.specs.History.{History, walk}
 use Rattle.player_core.specs.declared.kind.Kind.TheVariants.{Machine}
-use Rattle.player_core.specs.Sheet.{SheetData, IsMachine, states}
+use Rattle.player_core.specs.Sheet.{SheetData, IsMachine, states, digit}
 use Rattle.player_core.specs.AutomatonOf.{machine_row, machine_automaton, entered, automaton_of}
-use Rattle.player_core.specs.Rule.{FollowsRule, digit, newest, before_newest, heard_in, next_state, machine_rule, own_rule, rule}
+use Rattle.player_core.specs.Rule.{FollowsRule, newest, before_newest, heard_in, next_state, machine_rule, own_rule, rule}
 
 pub all_rows : (sheet : SheetData) → length (machine_automaton sheet).rows ≡ 2 * states sheet
 all_rows sheet = length-map-range_with_len (machine_row sheet) 0 (2 * states sheet)

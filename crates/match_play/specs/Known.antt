@@ -2,9 +2,8 @@
 use Rattle.std.specs.Prelude.{List}
 use Rattle.player_core.specs.State.{Lasting}
 use Rattle.player_core.specs.Sheet.{SheetData}
-use Rattle.player_core.specs.Fits.{IsPlaceable, NoPlugNamed}
+use Rattle.player_core.specs.Fits.{NoPlugNamed}
 
--- the bench has a place for the sheet's kind, and for a plug a player of its name
-pub record IsKnown (players : List Lasting) (sheet : SheetData) : Type 0 where
-  pub placeable : IsPlaceable sheet.kind
-  pub named : NoPlugNamed players sheet → ⊥
+-- for a plug the bench has a player of its name
+abbrev pub IsKnown : List Lasting → SheetData → Type 0
+IsKnown players sheet = NoPlugNamed players sheet → ⊥

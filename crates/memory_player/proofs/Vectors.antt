@@ -7,9 +7,9 @@ use Rattle.history_model.specs.declared.moves.Play.{Play}
 use Rattle.history_model.specs.Automaton.{IsAutomaton, row_at, weight_at, next_row, next_of, no_row}
 use Rattle.history_model.specs.History.{History, walk}
 use Rattle.player_core.specs.declared.kind.Kind.TheVariants.{MemoryOne}
-use Rattle.player_core.specs.Sheet.{SheetData, IsVector}
+use Rattle.player_core.specs.Sheet.{SheetData, IsVector, digit}
 use Rattle.player_core.specs.AutomatonOf.{vector_row, vector_automaton, automaton_of}
-use Rattle.player_core.specs.Rule.{FollowsRule, digit, vector_rule, own_rule, rule}
+use Rattle.player_core.specs.Rule.{FollowsRule, vector_rule, own_rule, rule}
 
 pub five_rows : (sheet : SheetData) → IsVector sheet → length (vector_automaton sheet).rows ≡ 5
 five_rows sheet vector = omega (arith, vector.four_weights, length-map sheet.table vector_row)

@@ -6,6 +6,7 @@ use Rattle.player_core.specs.declared.kind.Kind.{Kind}
 use Rattle.player_core.specs.declared.kind.Kind.TheVariants.{MemoryOne, Machine, Lookup, Plug}
 use Rattle.player_core.specs.State.{PlayerState}
 use Rattle.player_core.specs.Sheet.{SheetData, states}
+use Rattle.player_core.specs.Table.{table_automaton}
 
 -- a row of a vector: from each row the play leads to the row of that play
 abbrev pub vector_row : ℕ → Row
@@ -45,11 +46,11 @@ machine_automaton sheet =
       rows = map (machine_row sheet) (range_with_len 0 (2 * states sheet));
     }
 
--- a plug keeps its own automaton; so does, for now, what takes a lookup table
+-- a plug keeps its own automaton
 abbrev pub automaton_by : Kind → SheetData → Automaton → Automaton
 automaton_by MemoryOne sheet own = vector_automaton sheet
 automaton_by Machine sheet own = machine_automaton sheet
-automaton_by Lookup sheet own = own
+automaton_by Lookup sheet own = table_automaton sheet
 automaton_by Plug sheet own = own
 
 -- the automaton of an object that has taken a sheet, from the automaton of its own

@@ -7,7 +7,7 @@ use Rattle.player_core.specs.Sheet.{SheetData, Takes}
 
 -- the kinds of the first places, in this order; behind them stand plugs
 abbrev pub fixed_kinds : List Kind
-fixed_kinds = MemoryOne ∷ Machine ∷ []
+fixed_kinds = MemoryOne ∷ Machine ∷ Lookup ∷ []
 
 abbrev pub kind_of_place : ℕ → Kind
 kind_of_place k = slice_index_or fixed_kinds k Plug
@@ -52,10 +52,6 @@ pub record HaveShape (left right : List Lasting) : Type 0 where
 pub record Fits (left right : List Lasting) : Type 0 where
   pub shape : HaveShape left right
   pub twins : AreTwins left right
-
--- the kinds that a bench has a place for: for now every kind but lookup tables
-abbrev pub IsPlaceable : Kind → Type 0
-IsPlaceable kind = kind ≢ Lookup
 
 -- the sheet is a plug whose name no object has
 pub record NoPlugNamed (left : List Lasting) (sheet : SheetData) : Type 0 where

@@ -5,7 +5,7 @@ use Rattle.history_model.specs.History.{History, walk}
 use Rattle.player_core.specs.State.{PlayerState, Lasting, more, after_plays, state_at, lasting_at, lasting_of}
 use Rattle.player_core.specs.Sheet.{SheetData, Takes}
 use Rattle.player_core.specs.AutomatonOf.{automaton_of, loaded}
-use Rattle.player_core.specs.Fits.{Fits, IsPlaceable, IsPlaceOf}
+use Rattle.player_core.specs.Fits.{Fits, IsPlaceOf}
 use Rattle.player_core.specs.Entry.{entry_automaton}
 use Rattle.player_core.specs.Bench.{IsKept, KeepsPlugs, is_sure}
 use Rattle.player_core.specs.Counts.{Grew, GrewAtLeast, Advanced, ResumedAtLeast}
@@ -41,9 +41,9 @@ pub record KeepingLasts : Type 0 where
 pub record EntriesPlay : Type 0 where
   pub kept : (left right left_now : List Lasting) (sheet : SheetData) → Fits left right → KeepsPlugs left left_now →
       entry_automaton left_now sheet ≡ entry_automaton left sheet
-  pub left : (left right : List Lasting) (sheet : SheetData) (k : ℕ) → Fits left right → IsPlaceable sheet.kind
+  pub left : (left right : List Lasting) (sheet : SheetData) (k : ℕ) → Fits left right
       → IsPlaceOf left right sheet k → automaton_of sheet (lasting_at left k).automaton ≡ entry_automaton left sheet
-  pub right : (left right : List Lasting) (sheet : SheetData) (k : ℕ) → Fits left right → IsPlaceable sheet.kind
+  pub right : (left right : List Lasting) (sheet : SheetData) (k : ℕ) → Fits left right
       → IsPlaceOf left right sheet k → automaton_of sheet (lasting_at right k).automaton ≡ entry_automaton left sheet
 
 -- the laws of a change at one place: what lasts, what is kept, and the counts

@@ -3,7 +3,9 @@ pub mod Bench
 pub mod Counts
 pub mod Entry
 pub mod Fits
+pub mod Holder
 pub mod Laws
 pub mod Rule
 pub mod Sheet
 pub mod State
+pub mod Table

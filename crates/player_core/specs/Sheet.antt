@@ -1,5 +1,7 @@
 -- Sheets: one strategy as it stands in a file.
 use Rattle.std.specs.Prelude.{ℕ, ◌≡◌, ◌+◌, ◌*◌, ◌/◌, ◌^◌, ◌≤◌, ◌<◌, List, [], length, max, slice_index}
+use Rattle.history_model.specs.declared.moves.Move.{Move}
+use Rattle.history_model.specs.declared.moves.Move.TheVariants.{C, D}
 use Rattle.history_model.specs.Name.{IsName}
 use Rattle.player_core.specs.declared.kind.Kind.{Kind}
 use Rattle.player_core.specs.declared.kind.Kind.TheVariants.{MemoryOne, Machine, Lookup, Plug}
@@ -16,6 +18,11 @@ pub record SheetData : Type 0 where
   pub table : List ℕ
   pub next : List ℕ
   pub plug : List ℕ
+
+-- C as 0 and D as 1
+abbrev pub digit : Move → ℕ
+digit C = 0
+digit D = 1
 
 -- none of the numbers is above the limit
 abbrev pub AreWithin : ℕ → List ℕ → Type 0

@@ -3,7 +3,7 @@ ghost use Rattle.std.specs.Prelude.{◌≡◌, ◌<◌, ◌↔◌, IsTrue, IfOk,
 ghost use Rattle.player_core.specs.State.{AreAtStart, lasting_of, state_at};
 ghost use Rattle.player_core.specs.Sheet.{Takes};
 ghost use Rattle.player_core.specs.AutomatonOf.{loaded};
-ghost use Rattle.player_core.specs.Fits.{Fits, HaveLength, HaveShape, IsPlaceOf, IsPlaceable, NoPlugNamed};
+ghost use Rattle.player_core.specs.Fits.{Fits, HaveLength, HaveShape, IsPlaceOf, NoPlugNamed};
 ghost use Rattle.player_core.specs.Counts.{turns_of};
 ghost use Rattle.player_core.specs.Bench.{IsRestarted, KeepsPlugs, notes_of};
 
@@ -16,8 +16,8 @@ use std::alloc::Global;
 
 /// The players that a program plays with: one for each place on the left side, and one on the right.
 ///
-/// A bench fits if both sides are equally long, with 2 to 63 players; a `MemoryOne` comes first and a
-/// `Machine` second, and behind them stand plugs alone; no side has two plugs of one name; and two
+/// A bench fits if both sides are equally long, with 3 to 64 players; a `MemoryOne` comes first, a
+/// `Machine` second and a `Lookup` third, and behind them stand plugs alone; no side has two plugs of one name; and two
 /// plugs that face each other share their name and their automaton.
 #[derive(Drop)]
 pub struct Bench {
@@ -89,10 +89,9 @@ impl Bench {
     }
 
     /// The place whose players take a sheet, of a bench that fits. `None` if the sheet names a plug
-    /// that isn't on the bench, and for no other sheet. The bench has a place for the sheet's kind.
+    /// that isn't on the bench, and for no other sheet.
     pub fn place(&self, sheet: &Sheet) -> Option<u32>
         requires fits { Fits (lasting_of (⟦<Side as Seats>⟧.seats self.now.left)) (lasting_of (⟦<Side as Seats>⟧.seats self.now.right)) }
-        requires placeable { IsPlaceable sheet.now.kind }
         ensures { MatchOption result (NoPlugNamed (lasting_of (⟦<Side as Seats>⟧.seats self.now.left)) sheet.now) (λ k. IsPlaceOf (lasting_of (⟦<Side as Seats>⟧.seats self.now.left)) (lasting_of (⟦<Side as Seats>⟧.seats self.now.right)) sheet.now k) }
     {
         for k in 0..self.left.len() {

@@ -1,6 +1,7 @@
 //! Laws, proved once, on plain lists of what contracts see of a side. A caller has a law by calling
 //! its function, which does nothing. Where one place of a side has changed, `one_change` says what
 //! that does to the side, and `keeping_lasts` that the bench goes on fitting.
+ghost use Rattle.player_core.specs.Holder.{RowsAreHeld};
 ghost use Rattle.player_core.specs.Laws.{CountsAddUp, EntriesPlay, KeepingLasts, LoadKeeps, OneChange, OnePlaceTakes, PlaysWalk, SureIsTested};
 
 /// Plays move a player's mark along its automaton from where it was.
@@ -41,4 +42,9 @@ pub fn sure_is_tested()
 /// On a bench that fits, each side's player that takes a sheet plays what the sheet plays.
 pub fn entries_play()
     ensures { EntriesPlay }
+{}
+
+/// What a table of rows holds as rows are written over its first, and when it is new.
+pub fn rows_are_held()
+    ensures { RowsAreHeld }
 {}

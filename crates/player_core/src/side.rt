@@ -15,7 +15,7 @@ use history_model::NoMemory;
 use std::alloc::Global;
 
 /// The kinds of the first places, in this order. Behind them stand plugs.
-pub const FIXED_KINDS: [Kind; 2] = [Kind::MemoryOne, Kind::Machine];
+pub const FIXED_KINDS: [Kind; 3] = [Kind::MemoryOne, Kind::Machine, Kind::Lookup];
 
 fn kind_of_place(k: usize) -> Kind
     ensures { result ≡ kind_of_place k }

@@ -10,8 +10,7 @@ use Rattle.std.specs.Option.{option_map}
 use Rattle.indexmap.specs.IndexSet.{insert_key}
 use Rattle.history_model.specs.declared.moves.Move.{Move}
 use Rattle.history_model.specs.declared.moves.Move.TheVariants.{C, D}
-use Rattle.player_core.specs.Rule.{digit}
-use Rattle.player_core.specs.Sheet.{SheetData}
+use Rattle.player_core.specs.Sheet.{SheetData, digit}
 use Rattle.lab_ports.specs.declared.refusal.Refusal.{Refusal}
 use Rattle.lab_keys.specs.Refusing.{◌>>=◌}
 use Rattle.strategy_file.specs.declared.transition.Transition.{Transition}

@@ -1,8 +1,7 @@
 -- What the sheet of a machine says of each row that it was read from.
 use Rattle.std.specs.Prelude.{◌≡◌, ℕ, ◌+◌, ◌*◌, List, map, slice_get, slice_index, Some, Ok}
 use Rattle.history_model.specs.declared.moves.Move.{Move}
-use Rattle.player_core.specs.Rule.{digit}
-use Rattle.player_core.specs.Sheet.{SheetData}
+use Rattle.player_core.specs.Sheet.{SheetData, digit}
 use Rattle.strategy_file.specs.declared.transition.Transition.{Transition}
 use Rattle.strategy_file.specs.Rows.{states_of, number_of, machine_sheet}
 use Rattle.strategy_file.specs.Sheets.{weight_of}
