@@ -1,22 +1,25 @@
-//! Whether a sheet leaves nothing to chance.
+//! Whether an entry leaves nothing to chance.
 ghost use Rattle.std.specs.Prelude.{◌≡◌};
 ghost use Rattle.std.specs.List.{list_all};
 ghost use Rattle.player_core.specs.AutomatonOf.{vector_automaton};
+ghost use Rattle.player_core.specs.Table.{table_automaton};
 ghost use Rattle.player_core.specs.Bench.{is_sure};
-ghost use Rattle.lab_file.specs.Sure.{is_sure_weight, plug_is_sure, sheet_is_sure};
+ghost use Rattle.lab_file.specs.Sure.{is_sure_weight, plug_is_sure, sheet_is_sure, entry_is_sure};
 
+use crate::Entry;
 use history_model::Name;
 use player_core::{Kind, PlugNote, Sheet};
+use strategy_file::Draft;
 
 /// Whether every weight of the sheet's automaton is 0 or the denominator.
 #[tactic(auto, using(crate::proofs::Sureness::machines_are_sure))]
-pub(crate) fn sheet_is_sure(notes: &Vec<PlugNote>, sheet: &Sheet) -> bool
+fn sheet_is_sure(notes: &Vec<PlugNote>, sheet: &Sheet) -> bool
     ensures { result ≡ sheet_is_sure notes.now.items sheet.now }
 {
     match sheet.kind {
         Kind::MemoryOne => vector_is_sure(sheet),
         Kind::Machine => true,
-        Kind::Lookup => false,
+        Kind::Lookup => table_is_sure(sheet),
         Kind::Plug => plug_is_sure(notes, sheet.plug),
     }
 }
@@ -27,6 +30,15 @@ fn vector_is_sure(sheet: &Sheet) -> bool
     ensures { result ≡ is_sure (vector_automaton sheet.now) }
 {
     is_sure_weight(sheet.opening[0], sheet.den) && are_sure_weights(&sheet.table, sheet.den)
+}
+
+#[tactic(auto, using(crate::proofs::Sureness::table_sureness))]
+fn table_is_sure(sheet: &Sheet) -> bool
+    requires { sheet.now.kind ≡ Kind.Lookup }
+    ensures { result ≡ is_sure (table_automaton sheet.now) }
+{
+    sheet.shape();
+    are_sure_weights(&sheet.opening, sheet.den) && are_sure_weights(&sheet.table, sheet.den)
 }
 
 fn is_sure_weight(weight: u32, den: u32) -> bool
@@ -51,4 +63,17 @@ fn plug_is_sure(notes: &Vec<PlugNote>, name: Name) -> bool
         }
     }
     false
+}
+
+/// Whether an entry's automaton is sure, and no move of it is flipped.
+pub fn entry_is_sure(notes: &Vec<PlugNote>, entry: &Entry) -> bool
+    ensures { result ≡ entry_is_sure notes.now.items entry.now }
+{
+    if entry.noise.n != 0 {
+        return false;
+    }
+    match &entry.draft {
+        Draft::Ready(sheet) => sheet_is_sure(notes, sheet),
+        Draft::FromFile(_) => true,
+    }
 }

@@ -1,6 +1,6 @@
 //! Why the program may refuse its files.
 ghost use Rattle.std.specs.Prelude.{◌≡◌};
-ghost use Rattle.lab_ports.specs.declared.refusal.FileError.TheVariants.{NoMemory};
+ghost use Rattle.lab_ports.specs.declared.refusal.FileError.TheVariants.{NoMemory, Refused};
 
 use crate::Place;
 use std::alloc::{AllocError, AllocFailed};
@@ -161,6 +161,14 @@ pub enum FileError {
     /// Want of memory, whatever the file holds.
     #[error("no memory")]
     NoMemory,
+}
+
+impl From<Refusal> for FileError {
+    ghost from_gives = { λ refusal e. e ≡ Refused refusal };
+
+    fn from(refusal: Refusal) -> Self {
+        FileError::Refused(refusal)
+    }
 }
 
 impl From<AllocError> for FileError {

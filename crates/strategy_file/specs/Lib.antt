@@ -1,3 +1,4 @@
+pub mod CsvRows
 pub mod FileName
 pub mod Rows
 pub mod RowsLaw

@@ -2,6 +2,7 @@
 //! of a plug.
 #![tactic(auto)]
 
+mod csv_rows;
 mod draft;
 mod entry;
 mod file_name;
@@ -12,6 +13,7 @@ mod states;
 mod toml_rows;
 mod transition;
 
+pub use csv_rows::read_machine_csv;
 pub use draft::{Draft, MachineFile};
 pub use entry::read_sheet;
 pub use file_name::FileName;

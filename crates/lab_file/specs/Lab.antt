@@ -1,0 +1,50 @@
+-- A lab: the game, the entries and the jobs that a lab file stands for.
+use Rattle.std.specs.Prelude.{ℕ, ◌≡◌, ◌≢◌, ◌<◌, ◌≤◌, ◌^◌, List, [], length, slice_index_or, IfSome}
+use Rattle.history_model.specs.declared.moves.Move.TheVariants.{C}
+use Rattle.history_model.specs.Game.{Payoffs}
+use Rattle.history_model.specs.Noise.{FlipRate, no_noise}
+use Rattle.strategy_file.specs.declared.draft.Draft.TheVariants.{FromFile}
+use Rattle.lab_file.specs.declared.lab.Entry.{Entry}
+use Rattle.lab_file.specs.declared.jobs.Jobs.{Jobs}
+use Rattle.lab_file.specs.declared.jobs.MatchJob.{MatchJob}
+
+-- the game is the one of the file with the offset added to each payoff
+pub record LabData : Type 0 where
+  pub version : ℕ
+  pub offset : ℕ
+  pub game : Payoffs
+  pub noise : FlipRate
+  pub entries : List Entry
+  pub jobs : Jobs
+
+-- what stands where there is no entry
+abbrev pub no_entry : Entry
+no_entry = record { name = []; draft = FromFile (record { file = []; start = 0; opening = C }); noise = no_noise }
+
+abbrev pub entry_at : List Entry → ℕ → Entry
+entry_at entries place = slice_index_or entries place no_entry
+
+-- no two entries have one name
+abbrev pub NamesDiffer : List Entry → Type 0
+NamesDiffer entries = (j k : ℕ) → j < k → k < length entries → (entry_at entries j).name ≢ (entry_at entries k).name
+
+-- 1 to 64 entries of different names
+pub record AreEntries (entries : List Entry) : Type 0 where
+  pub some : 1 ≤ length entries
+  pub few : length entries ≤ 64
+  pub differ : NamesDiffer entries
+
+-- a match between two of so many entries, of 1 to 10^12 turns
+pub record IsMatchJob (count : ℕ) (job : MatchJob) : Type 0 where
+  pub left : job.left < count
+  pub right : job.right < count
+  pub some_turns : 1 ≤ job.turns
+  pub few_turns : job.turns ≤ 10 ^ 12
+
+-- each job is one of so many entries
+abbrev pub AreJobs : ℕ → Jobs → Type 0
+AreJobs count jobs = IfSome jobs.match_job (IsMatchJob count)
+
+pub record IsLab (lab : LabData) : Type 0 where
+  pub entries : AreEntries lab.entries
+  pub jobs : AreJobs (length lab.entries) lab.jobs

@@ -1,0 +1,119 @@
+//! The jobs of a lab.
+ghost use Rattle.std.specs.Prelude.{◌≡◌, ◌<◌, ◌≤◌, length, option_map, IfOk, IfSome};
+ghost use Rattle.toml.specs.View.{table_view};
+ghost use Rattle.lab_keys.specs.Refusing.{seen_by};
+ghost use Rattle.lab_file.specs.Lab.{AreJobs, IsMatchJob};
+ghost use Rattle.lab_file.specs.LabOf.{top, place_of, place_at, match_of, match_at, has_unbuilt, jobs_of};
+
+use crate::places::{in_match, top};
+use crate::{Entries, Entry};
+use lab_keys::{found_at, optional_table_at, text_at, whole_at};
+use lab_ports::{KeyName, Place, Refusal};
+use toml::Table;
+
+// The most turns that the key of a job may give.
+const MOST_TURNS: u64 = 1_000_000_000_000;
+
+// The tables of the jobs that aren't built.
+const UNBUILT: [KeyName; 7] = [
+    KeyName::Tournament,
+    KeyName::Rota,
+    KeyName::Board,
+    KeyName::Moran,
+    KeyName::Best,
+    KeyName::Mean,
+    KeyName::Certificate,
+];
+
+/// One match of two entries, which may be the same.
+#[derive(Clone, Copy, Debug, PartialEq, Eq)]
+pub struct MatchJob {
+    /// The place of the left entry, counted from 0.
+    pub left: u32,
+    /// The place of the right entry.
+    pub right: u32,
+    /// The turns, 1 to 10^12.
+    pub turns: u64,
+}
+
+/// The jobs of a lab: those whose tables stand in the file.
+#[derive(Clone, Copy, Debug, PartialEq, Eq)]
+pub struct Jobs {
+    /// The table `match`.
+    pub match_job: Option<MatchJob>,
+}
+
+/// The place of the first entry of a name.
+pub fn place_of(entries: &[Entry], name: &[u8]) -> Option<usize>
+    ensures place { result ≡ place_of name.now entries.now }
+    ensures within { IfSome result (λ place. place < length entries.now) }
+{
+    entries.iter().position(|entry| entry.name.bytes() == name)
+}
+
+// The place of the entry that a key of a job names.
+fn place_at(entries: &Entries, place: Place, job: &Table) -> Result<u32, Refusal>
+    requires { length entries.now ≤ 64 }
+    ensures place { result ≡ place_at entries.now place (table_view job.now) }
+    ensures within { IfOk result (λ k. k < length entries.now) }
+{
+    let name = text_at(job, place)?;
+    match place_of(entries.as_slice(), name.as_bytes()) {
+        Some(k) => Ok(k as u32),
+        None => Err(Refusal::UnknownEntry(place)),
+    }
+}
+
+#[tactic(auto, unfolding(crate::specs::LabOf::match_of))]
+fn match_of(entries: &Entries, job: &Table) -> Result<MatchJob, Refusal>
+    requires { length entries.now ≤ 64 }
+    ensures job { result ≡ match_of entries.now (table_view job.now) }
+    ensures sound { IfOk result (IsMatchJob (length entries.now)) }
+{
+    let left = place_at(entries, in_match(KeyName::Left), job)?;
+    let right = place_at(entries, in_match(KeyName::Right), job)?;
+    let turns = whole_at(job, in_match(KeyName::Turns), 1, MOST_TURNS)?;
+    Ok(MatchJob { left, right, turns })
+}
+
+#[tactic(auto, unfolding(crate::specs::LabOf::match_at))]
+fn match_at(entries: &Entries, tree: &Table) -> Result<Option<MatchJob>, Refusal>
+    requires { length entries.now ≤ 64 }
+    ensures job { result ≡ match_at entries.now (table_view tree.now) }
+    ensures sound { IfOk result (λ job. IfSome job (IsMatchJob (length entries.now))) }
+{
+    match optional_table_at(tree, top(KeyName::Match))? {
+        Some(job) => {
+            let found = match_of(entries, job)?;
+            Ok(Some(found))
+        }
+        None => Ok(None),
+    }
+}
+
+// Something stands at the key of a job that isn't built.
+fn has_unbuilt(tree: &Table) -> bool
+    ensures { result ≡ has_unbuilt (table_view tree.now) }
+{
+    UNBUILT
+        .iter()
+        .any(|job| found_at(tree, top(*job)).is_some())
+}
+
+/// The jobs of a document with these entries, in the order of their tables.
+///
+/// # Errors
+///
+/// The first wrong key; and `NotBuilt` at the first job that isn't built.
+#[tactic(auto, unfolding(crate::specs::LabOf::jobs_of))]
+pub fn jobs_of(entries: &Entries, tree: &Table) -> Result<Jobs, Refusal>
+    requires { length entries.now ≤ 64 }
+    ensures jobs { result ≡ jobs_of entries.now (table_view tree.now) }
+    ensures sound { IfOk result (AreJobs (length entries.now)) }
+{
+    let match_job = match_at(entries, tree)?;
+    if has_unbuilt(tree) {
+        return Err(Refusal::NotBuilt);
+    }
+    Ok(Jobs { match_job })
+}
