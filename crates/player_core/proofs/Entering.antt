@@ -9,7 +9,7 @@ use Rattle.player_core.specs.declared.kind.Kind.TheVariants.{MemoryOne, Machine,
 use Rattle.player_core.specs.State.{Lasting, nobody, lasting_at}
 use Rattle.player_core.specs.Sheet.{SheetData}
 use Rattle.player_core.specs.AutomatonOf.{automaton_by, automaton_of}
-use Rattle.player_core.specs.Fits.{Fits, HaveKinds, NamesDiffer, IsPlaceable, IsPlaceOf, first_plug}
+use Rattle.player_core.specs.Fits.{Fits, HaveKinds, NamesDiffer, IsPlaceOf, first_plug}
 use Rattle.player_core.specs.Entry.{automaton_named, plug_automaton, entry_automaton}
 use Rattle.player_core.specs.Bench.{KeepsPlugs}
 use Rattle.player_core.specs.Laws.{EntriesPlay}
@@ -86,20 +86,20 @@ plug_at players k name differ low h e =
     ∙ ap (λ p. p.automaton) here
 
 -- an automaton that a sheet of a kind gives is the same for any own one, but for a plug
-by_kind : (kind : Kind) (sheet : SheetData) (own other : Automaton) → kind ≢ Lookup → (kind ≡ Plug → own ≡ other) → automaton_by kind sheet own ≡ automaton_by kind sheet other
-by_kind MemoryOne sheet own other known same = refl
-by_kind Machine sheet own other known same = refl
-by_kind Lookup sheet own other known same = absurd (known refl)
-by_kind Plug sheet own other known same = same refl
+by_kind : (kind : Kind) (sheet : SheetData) (own other : Automaton) → (kind ≡ Plug → own ≡ other) → automaton_by kind sheet own ≡ automaton_by kind sheet other
+by_kind MemoryOne sheet own other same = refl
+by_kind Machine sheet own other same = refl
+by_kind Lookup sheet own other same = refl
+by_kind Plug sheet own other same = same refl
 
-on_left : (left right : List Lasting) (sheet : SheetData) (k : ℕ) → Fits left right → IsPlaceable sheet.kind → IsPlaceOf left right sheet k → automaton_of sheet (lasting_at left k).automaton ≡ entry_automaton left sheet
-on_left left right sheet k fits known p =
-    by_kind sheet.kind sheet _ _ known (λ plug.
+on_left : (left right : List Lasting) (sheet : SheetData) (k : ℕ) → Fits left right → IsPlaceOf left right sheet k → automaton_of sheet (lasting_at left k).automaton ≡ entry_automaton left sheet
+on_left left right sheet k fits p =
+    by_kind sheet.kind sheet _ _ (λ plug.
     sym (plug_at left k sheet.plug fits.shape.left_names (plug_behind k (sym (fits.shape.left_kinds k p.left_inside) ∙ p.left_takes.kind ∙ plug)) p.left_inside (p.left_takes.name plug)))
 
-on_right : (left right : List Lasting) (sheet : SheetData) (k : ℕ) → Fits left right → IsPlaceable sheet.kind → IsPlaceOf left right sheet k → automaton_of sheet (lasting_at right k).automaton ≡ entry_automaton left sheet
-on_right left right sheet k fits known p =
-    by_kind sheet.kind sheet _ _ known (λ plug.
+on_right : (left right : List Lasting) (sheet : SheetData) (k : ℕ) → Fits left right → IsPlaceOf left right sheet k → automaton_of sheet (lasting_at right k).automaton ≡ entry_automaton left sheet
+on_right left right sheet k fits p =
+    by_kind sheet.kind sheet _ _ (λ plug.
     let low : first_plug ≤ k = plug_behind k (sym (fits.shape.left_kinds k p.left_inside) ∙ p.left_takes.kind ∙ plug) in
     sym (fits.twins k low p.left_inside).automaton ∙ sym (plug_at left k sheet.plug fits.shape.left_names low p.left_inside (p.left_takes.name plug)))
 

@@ -1,5 +1,5 @@
 -- A bench that fits.
-use Rattle.std.proofs.Common.{◌≡◌, ◌≢◌, inl, inr, refl, ℕ, zero, suc, ◌<◌, ◌≤◌, List, length, sym, ◌∙◌, arith}
+use Rattle.std.proofs.Common.{◌≡◌, ◌≢◌, inl, inr, refl, ℕ, zero, suc, ◌<◌, ◌≤◌, List, length, sym, ◌∙◌, ap, arith}
 use Rattle.std.proofs.lemmas.List.{get_or_past}
 use Rattle.std.proofs.lemmas.Bool.{cases_order}
 use Rattle.player_core.specs.declared.kind.Kind.{Kind}
@@ -7,51 +7,70 @@ use Rattle.player_core.specs.declared.kind.Kind.TheVariants.{MemoryOne, Machine,
 use Rattle.player_core.specs.State.{Lasting, lasting_at}
 use Rattle.player_core.specs.Sheet.{SheetData, Takes}
 use Rattle.player_core.specs.Laws.{OnePlaceTakes}
-use Rattle.player_core.specs.Fits.{Fits, HaveKinds, NamesDiffer, NoPlugNamed, IsPlaceable, fixed_kinds, kind_of_place, first_plug}
+use Rattle.player_core.specs.Fits.{Fits, HaveKinds, NamesDiffer, NoPlugNamed, fixed_kinds, kind_of_place, first_plug}
 
 -- a player of a sheet's kind takes it, where the kind is no plug
 takes_kind : (left : List Lasting) (sheet : SheetData) (k : ℕ) → HaveKinds left → k < length left → kind_of_place k ≡ sheet.kind → sheet.kind ≢ Plug → Takes (lasting_at left k) sheet
 takes_kind left sheet k kinds h e other = record { kind = kinds k h ∙ e; name = λ p. absurd (other p) }
 
+-- the place of each kind: its own, and for plugs the first behind them
+abbrev place_of_kind : Kind → ℕ
+place_of_kind MemoryOne = 0
+place_of_kind Machine = 1
+place_of_kind Lookup = 2
+place_of_kind Plug = 3
+
 -- the kind of a sheet that no player takes
-kind_left : (left : List Lasting) (sheet : SheetData) (kind : Kind) → HaveKinds left → first_plug ≤ length left → sheet.kind ≡ kind → kind ≢ Lookup → ((j : ℕ) → j < length left → ¬ Takes (lasting_at left j) sheet) → kind ≡ Plug
-kind_left left sheet MemoryOne kinds some e known none =
-    absurd (none 0 (omega (arith, some)) (takes_kind left sheet 0 kinds (omega (arith, some)) (sym e) (λ p. cc)))
-kind_left left sheet Machine kinds some e known none =
-    absurd (none 1 (omega (arith, some)) (takes_kind left sheet 1 kinds (omega (arith, some)) (sym e) (λ p. cc)))
-kind_left left sheet Lookup kinds some e known none = absurd (known refl)
-kind_left left sheet Plug kinds some e known none = refl
+kind_left : (left : List Lasting) (sheet : SheetData) (kind : Kind) → HaveKinds left → first_plug ≤ length left → sheet.kind ≡ kind → ((j : ℕ) → j < length left → ¬ Takes (lasting_at left j) sheet) → kind ≡ Plug
+kind_left left sheet Plug kinds some e none = refl
+kind_left left sheet kind kinds some e none =
+    let inside : place_of_kind kind < length left = omega (arith, some) in
+    absurd (none (place_of_kind kind) inside (takes_kind left sheet (place_of_kind kind) kinds inside (sym e) (λ p. cc)))
 
 pub plug_of_place : (k : ℕ) → first_plug ≤ k → kind_of_place k ≡ Plug
 plug_of_place k low = get_or_past fixed_kinds k Plug low
 
 -- a sheet that no player takes is a plug that no player is named as
-pub none_takes : (left right : List Lasting) (sheet : SheetData) (k : ℕ) → Fits left right → IsPlaceable sheet.kind → length left ≤ k → ((j : ℕ) → j < k → ¬ Takes (lasting_at left j) sheet) → NoPlugNamed left sheet
-none_takes left right sheet k fits known whole none =
+pub none_takes : (left right : List Lasting) (sheet : SheetData) (k : ℕ) → Fits left right → length left ≤ k → ((j : ℕ) → j < k → ¬ Takes (lasting_at left j) sheet) → NoPlugNamed left sheet
+none_takes left right sheet k fits whole none =
     let inside : (j : ℕ) → j < length left → ¬ Takes (lasting_at left j) sheet = λ j h. none j (omega (arith, h, whole)) in
     let plug : sheet.kind ≡ Plug =
-    kind_left left sheet sheet.kind fits.shape.left_kinds fits.shape.lengths.some refl known inside in
+    kind_left left sheet sheet.kind fits.shape.left_kinds fits.shape.lengths.some refl inside in
     record {
       plug = plug;
       none = λ j low h e. inside j h (record { kind = fits.shape.left_kinds j h ∙ plug_of_place j low ∙ sym plug; name = λ p. e });
     }
 
+-- a place whose kind is no plug is the place of its kind
+own_place : (k : ℕ) → k < first_plug → place_of_kind (kind_of_place k) ≡ k
+own_place zero h = refl
+own_place (suc zero) h = refl
+own_place (suc (suc zero)) h = refl
+own_place (suc (suc (suc k))) h = absurd (omega (arith, h))
+
+place_of_plug : (k : ℕ) → kind_of_place k ≡ Plug → k < first_plug → first_plug ≡ k
+place_of_plug k e h = sym (ap place_of_kind e) ∙ own_place k h
+
 -- the place of a plug is behind the fixed kinds
 pub plug_behind : (k : ℕ) → kind_of_place k ≡ Plug → first_plug ≤ k
-plug_behind zero e = cc
-plug_behind (suc zero) e = cc
-plug_behind (suc (suc k)) e = omega arith
+plug_behind k e = elim (cases_order k first_plug) as (λ _. first_plug ≤ k) [
+  | inl same ↦ omega (arith, same)
+  | inr (inl below) ↦ absurd (omega (arith, below, place_of_plug k e below))
+  | inr (inr above) ↦ omega (arith, above)
+]
+
+-- a place whose kind is no plug is one of the first
+is_first : (k : ℕ) → kind_of_place k ≢ Plug → k < first_plug
+is_first k other = elim (cases_order k first_plug) as (λ _. k < first_plug) [
+  | inl same ↦ absurd (other (plug_of_place k (omega (arith, same))))
+  | inr (inl below) ↦ below
+  | inr (inr above) ↦ absurd (other (plug_of_place k (omega (arith, above))))
+]
 
 -- two places of one kind that is no plug are one
 same_place : (j k : ℕ) → kind_of_place j ≡ kind_of_place k → kind_of_place k ≢ Plug → j ≡ k
-same_place zero zero e other = refl
-same_place zero (suc zero) e other = cc
-same_place zero (suc (suc k)) e other = absurd (other (plug_of_place (suc (suc k)) (omega arith)))
-same_place (suc zero) zero e other = cc
-same_place (suc zero) (suc zero) e other = refl
-same_place (suc zero) (suc (suc k)) e other = absurd (other (plug_of_place (suc (suc k)) (omega arith)))
-same_place (suc (suc j)) k e other =
-    absurd (other (sym e ∙ plug_of_place (suc (suc j)) (omega arith)))
+same_place j k e other =
+    sym (own_place j (is_first j (λ plug. other (sym e ∙ plug)))) ∙ ap place_of_kind e ∙ own_place k (is_first k other)
 
 -- two plugs of one name are one
 same_plug : (players : List Lasting) (j k : ℕ) → NamesDiffer players → first_plug ≤ j → first_plug ≤ k → j < length players → k < length players → (lasting_at players j).name ≡ (lasting_at players k).name → j ≡ k

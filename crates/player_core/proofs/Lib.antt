@@ -1,6 +1,7 @@
 pub mod Entering
 pub mod Fitting
 pub mod Growing
+pub mod Held
 pub mod Keeping
 pub mod Loops
 pub mod Rows

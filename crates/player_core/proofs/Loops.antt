@@ -1,5 +1,6 @@
 -- Loops over the places of a side: what is known of the places below k.
-use Rattle.std.proofs.Common.{◌≡◌, ◌≢◌, ℕ, ◌≤◌, ◌<◌, List, ◌++◌, length, map, take, drop}
+use Rattle.std.proofs.Common.{◌≡◌, ◌≢◌, ℕ, ◌≤◌, ◌<◌, List, [], ◌++◌, length, map, take, drop, sym, ◌∙◌, ap, arith}
+use Rattle.std.proofs.lemmas.List.{append-nil, drop_all, length-map}
 use Rattle.player_core.specs.declared.bench.PlugNote.{PlugNote}
 use Rattle.player_core.specs.State.{PlayerState, at_start, lasting_of, lasting_at}
 use Rattle.player_core.specs.Sheet.{SheetData, Takes}
@@ -41,6 +42,13 @@ pub record NotesSoFar (begin now : List PlayerState) (notes : List PlugNote) (k 
   pub length_same : length now ≡ length begin
   pub seen : notes ++ map note_of (drop k (lasting_of begin)) ≡ notes_of (lasting_of begin)
   pub end_is : end ≡ length begin
+
+-- at the end there are all notes
+pub all_noted : (begin now : List PlayerState) (notes : List PlugNote) (k end : ℕ) → NotesSoFar begin now notes k end → end ≤ k → notes ≡ notes_of (lasting_of begin)
+all_noted begin now notes k end h past =
+    let none_left : drop k (lasting_of begin) ≡ [] =
+    drop_all k (lasting_of begin) (omega (arith, past, h.end_is, length-map begin (λ state. state.lasting))) in
+    sym (append-nil notes) ∙ sym (ap (λ rest. notes ++ map note_of rest) none_left) ∙ h.seen
 
 -- no player below k takes the sheet
 pub record NoneTakes (states : List PlayerState) (sheet : SheetData) (k end : ℕ) : Type 0 where

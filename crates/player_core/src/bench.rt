@@ -17,8 +17,8 @@ use std::alloc::Global;
 /// The players that a program plays with: one for each place on the left side, and one on the right.
 ///
 /// A bench fits if both sides are equally long, with 3 to 64 players; a `MemoryOne` comes first, a
-/// `Machine` second and a `Lookup` third, and behind them stand plugs alone; no side has two plugs of one name; and two
-/// plugs that face each other share their name and their automaton.
+/// `Machine` second and a `Lookup` third, and behind them stand plugs alone; no side has two plugs of
+/// one name; and two plugs that face each other share their name and their automaton.
 #[derive(Drop)]
 pub struct Bench {
     pub left: Side,

@@ -8,23 +8,23 @@ pub play_at-requires-clause-sure_left : goal.play_at-requires-clause-sure_left
 play_at-requires-clause-sure_left g c =
     is_sure_too _ _
     (loaded_plays c.one_change.ensures _ _ _ c.args.left.now (inside_states _ _ c.place_of-i.ensures.left_inside) c.load.ensures.left
-    ∙ c.entries_play.ensures.left _ _ _ _ c.requires.fits c.requires.left_known.placeable c.place_of-i.ensures)
+    ∙ c.entries_play.ensures.left _ _ _ _ c.requires.fits c.place_of-i.ensures)
     c.requires.sure_left
 
 pub play_at-requires-clause-sure_right : goal.play_at-requires-clause-sure_right
 play_at-requires-clause-sure_right g c =
     is_sure_too _ _
     (loaded_plays c.one_change.ensures _ _ _ c.args.right.now (inside_states _ _ c.place_of-j.ensures.right_inside) c.load.ensures.right
-    ∙ c.entries_play.ensures.right _ _ _ _ c.requires.fits c.requires.right_known.placeable c.place_of-j.ensures)
+    ∙ c.entries_play.ensures.right _ _ _ _ c.requires.fits c.place_of-j.ensures)
     c.requires.sure_right
 
 pub returns-clause-tally : goal.returns-clause-tally
 returns-clause-tally g c =
     same_tally _ _ _ _ _ _
     (loaded_plays c.one_change.ensures _ _ _ c.args.left.now (inside_states _ _ c.place_of-i.ensures.left_inside) c.load.ensures.left
-    ∙ c.entries_play.ensures.left _ _ _ _ c.requires.fits c.requires.left_known.placeable c.place_of-i.ensures)
+    ∙ c.entries_play.ensures.left _ _ _ _ c.requires.fits c.place_of-i.ensures)
     (loaded_plays c.one_change.ensures _ _ _ c.args.right.now (inside_states _ _ c.place_of-j.ensures.right_inside) c.load.ensures.right
-    ∙ c.entries_play.ensures.right _ _ _ _ c.requires.fits c.requires.right_known.placeable c.place_of-j.ensures)
+    ∙ c.entries_play.ensures.right _ _ _ _ c.requires.fits c.place_of-j.ensures)
     c.play_at.ensures.tally
 
 pub returns-clause-left_kept : goal.returns-clause-left_kept
@@ -80,9 +80,9 @@ returns-clause-left_played g c =
     has_played c.one_change.ensures _ _ _ c.place_of-i.result c.args.left.now _ _ (inside_states _ _ c.place_of-i.ensures.left_inside) c.load.ensures.left c.play_at.ensures.left
     (same_path _ _ _ _ _
     (loaded_plays c.one_change.ensures _ _ _ c.args.left.now (inside_states _ _ c.place_of-i.ensures.left_inside) c.load.ensures.left
-    ∙ c.entries_play.ensures.left _ _ _ _ c.requires.fits c.requires.left_known.placeable c.place_of-i.ensures)
+    ∙ c.entries_play.ensures.left _ _ _ _ c.requires.fits c.place_of-i.ensures)
     (loaded_plays c.one_change.ensures _ _ _ c.args.right.now (inside_states _ _ c.place_of-j.ensures.right_inside) c.load.ensures.right
-    ∙ c.entries_play.ensures.right _ _ _ _ c.requires.fits c.requires.right_known.placeable c.place_of-j.ensures))
+    ∙ c.entries_play.ensures.right _ _ _ _ c.requires.fits c.place_of-j.ensures))
     c.place_of-i.ensures.left_takes
 
 pub returns-clause-right_played : goal.returns-clause-right_played
@@ -90,7 +90,7 @@ returns-clause-right_played g c =
     has_played c.one_change.ensures _ _ _ c.place_of-j.result c.args.right.now _ _ (inside_states _ _ c.place_of-j.ensures.right_inside) c.load.ensures.right c.play_at.ensures.right
     (ap turned (same_path _ _ _ _ _
     (loaded_plays c.one_change.ensures _ _ _ c.args.left.now (inside_states _ _ c.place_of-i.ensures.left_inside) c.load.ensures.left
-    ∙ c.entries_play.ensures.left _ _ _ _ c.requires.fits c.requires.left_known.placeable c.place_of-i.ensures)
+    ∙ c.entries_play.ensures.left _ _ _ _ c.requires.fits c.place_of-i.ensures)
     (loaded_plays c.one_change.ensures _ _ _ c.args.right.now (inside_states _ _ c.place_of-j.ensures.right_inside) c.load.ensures.right
-    ∙ c.entries_play.ensures.right _ _ _ _ c.requires.fits c.requires.right_known.placeable c.place_of-j.ensures)))
+    ∙ c.entries_play.ensures.right _ _ _ _ c.requires.fits c.place_of-j.ensures)))
     c.place_of-j.ensures.right_takes

@@ -5,4 +5,4 @@ use Rattle.player_core.proofs.bench.Bench.place.Goals as goal
 
 pub returns : goal.returns
 returns g c =
-    none_takes _ _ _ _ c.requires.fits c.requires.placeable (simp length-map (omega arith)) c.loop-k.invariant.none
+    none_takes _ _ _ _ c.requires.fits (simp length-map (omega arith)) c.loop-k.invariant.none
