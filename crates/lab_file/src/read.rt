@@ -57,7 +57,7 @@ fn lab_in(alloc: Global, tree: &Table, notes: &Vec<PlugNote>) -> Result<Lab, Fil
 /// The first refusal, in this order: `TooLong(Lab)` over 1 MiB (1,048,576 bytes); `Syntax` where the
 /// bytes are no TOML document; the version, the game and the noise; the entries one after the other;
 /// the jobs. And `NoMemory`, which may come in place of any of these but `TooLong`.
-#[tactic(auto, unfolding(crate::specs::LabOf::lab_of))]
+#[tactic(auto, using(crate::proofs::Readings::too_long))]
 pub fn read_lab(alloc: Global, bytes: &[u8], notes: &Vec<PlugNote>) -> Result<Lab, FileError>
     ensures { Gives (λ lab. lab) result (lab_of notes.now.items bytes.now) }
 {
