@@ -1,5 +1,5 @@
--- What a sound lab's entries are on a bench.
-use Rattle.std.proofs.Common.{◌≡◌, ℕ, suc, ◌+◌, ◌<◌, ◌≢◌, true, All, List, [], ◌∷◌, map, drop, length, slice_get, get_or, Some, sym, ◌∙◌, ap, subst, inl, inr, arith}
+-- What the entries of a match are on a bench.
+use Rattle.std.proofs.Common.{◌≡◌, ℕ, suc, ◌+◌, ◌<◌, ◌≢◌, Bool, true, false, ◌&&◌, ◌==◌, nat_lt, if◌then◌else◌, Result, Ok, Err, refl, List, [], ◌∷◌, map, drop, length, slice_get, get_or, Some, sym, ◌∙◌, ap, subst, inl, inr, arith}
 use Rattle.std.proofs.lemmas.Bool.{cases_Bool}
 use Rattle.std.proofs.lemmas.List.{get_or-drop, length-drop}
 use Rattle.std.proofs.lemmas.Option.{slice_get_cases}
@@ -17,23 +17,14 @@ use Rattle.player_core.specs.Laws.{SureIsTested}
 use Rattle.history_model.specs.Automaton.{IsSure}
 use Rattle.player_core.specs.declared.bench.PlugNote.{PlugNote}
 use Rattle.match_play.specs.Known.{IsKnown}
-use Rattle.lab_file.specs.declared.entries.PlainEntry.{PlainEntry}
-use Rattle.lab_file.specs.declared.entries.PlainLab.{PlainLab}
-use Rattle.lab_file.specs.Plain.{IsSound, IsSureEntry}
-use Rattle.lab_file.specs.Sure.{plug_is_sure, sure_by, sheet_is_sure}
-
--- an entry of a sound lab is sure
-entry_sure : (notes : List PlugNote) (entries : List PlainEntry) (place : ℕ) (entry : PlainEntry) → All (IsSureEntry notes) entries
-    → slice_get entries place ≡ Some entry → sheet_is_sure notes entry.sheet ≡ true
-entry_sure notes entries place entry all is =
-    elim ((slice_get_cases entries place).1) [
-      | inl found ↦
-          let same : found.0 ≡ entry = cc in
-          let here : get_or entries place found.0 ≡ entry = found.3 ∙ same in
-          let P : PlainEntry → Type 0 = λ e. IsSureEntry notes e in
-          subst P here (all place found.0 found.1)
-      | inr none ↦ absurd (cc)
-    ]
+use Rattle.lab_ports.specs.declared.refusal.Refusal.{Refusal}
+use Rattle.lab_ports.specs.declared.refusal.Refusal.TheVariants.{TooManyTurns, NotBuilt}
+use Rattle.strategy_file.specs.declared.draft.Draft.TheVariants.{Ready}
+use Rattle.lab_file.specs.declared.lab.Entry.{Entry}
+use Rattle.lab_file.specs.declared.jobs.MatchJob.{MatchJob}
+use Rattle.lab_file.specs.Lab.{entry_at}
+use Rattle.lab_file.specs.Limits.{match_limits}
+use Rattle.lab_file.specs.Sure.{plug_is_sure, sure_by, sheet_is_sure, draft_is_sure, entry_is_sure}
 
 -- a plug that a note calls sure plays a sure automaton
 named_sure : (players : List Lasting) (name : List ℕ) → plug_is_sure (map note_of players) name ≡ true → is_sure (automaton_named players name) ≡ true
@@ -65,12 +56,6 @@ no_note (player ∷ players) name none h =
       | inr other ↦ no_note players name (λ k inside. none (suc k) (omega arith)) (rw other at h)
     ]
 
-not_lookup : (kind : Kind) (notes : List PlugNote) (sheet : SheetData) → sure_by kind notes sheet ≡ true → kind ≢ Lookup
-not_lookup MemoryOne notes sheet h is = cc
-not_lookup Machine notes sheet h is = cc
-not_lookup Lookup notes sheet h is = cc
-not_lookup Plug notes sheet h is = cc
-
 plug_sure : (kind : Kind) (notes : List PlugNote) (sheet : SheetData) → sure_by kind notes sheet ≡ true → kind ≡ Plug → plug_is_sure notes sheet.plug ≡ true
 plug_sure MemoryOne notes sheet h is = absurd (cc)
 plug_sure Machine notes sheet h is = absurd (cc)
@@ -88,17 +73,37 @@ unnamed players sheet h missing =
 
 -- a sheet that is sure by the notes has its players on the bench
 sheet_known : (players : List Lasting) (sheet : SheetData) → sheet_is_sure (notes_of players) sheet ≡ true → IsKnown players sheet
-sheet_known players sheet h = record {
-  placeable = not_lookup sheet.kind (notes_of players) sheet h;
-  named = unnamed players sheet h;
-}
+sheet_known players sheet h = unnamed players sheet h
 
--- the entries of a sound lab's match play sure automata, and have their players
-pub entry_plays_sure : SureIsTested → (players right : List Lasting) (lab : PlainLab) (place : ℕ) (entry : PlainEntry) → Fits players right → IsSound (notes_of players) lab
-    → slice_get lab.entries place ≡ Some entry → IsSure (entry_automaton players entry.sheet)
-entry_plays_sure tested players right lab place entry fits sound is =
-    (tested (entry_automaton players entry.sheet)).0 (sheet_plays_sure players entry.sheet (entry_sure (notes_of players) lab.entries place entry sound.sure is))
+-- the limits of a match by what is tested of it
+abbrev limits_by : Bool → Bool → ℕ → Result (Unit {0}) Refusal
+limits_by left right turns = if left && right then (if nat_lt 1000000 turns then Err TooManyTurns else Ok tt) else Err NotBuilt
 
-pub entry_known : (players : List Lasting) (lab : PlainLab) (place : ℕ) (entry : PlainEntry) → IsSound (notes_of players) lab
-    → slice_get lab.entries place ≡ Some entry → IsKnown players entry.sheet
-entry_known players lab place entry sound is = sheet_known players entry.sheet (entry_sure (notes_of players) lab.entries place entry sound.sure is)
+both : (left right : Bool) (turns : ℕ) → limits_by left right turns ≡ Ok tt → (left ≡ true) × (right ≡ true)
+both true true turns h = (refl, refl)
+both true false turns h = absurd (cc)
+both false right turns h = absurd (cc)
+
+second : (a b : Bool) → (a && b) ≡ true → b ≡ true
+second true b h = h
+second false b h = absurd (cc)
+
+-- the two entries of a match that keeps the limits are sure
+pub both_sure : (notes : List PlugNote) (entries : List Entry) (job : MatchJob) → match_limits notes entries job ≡ Ok tt
+    → (entry_is_sure notes (entry_at entries job.left) ≡ true) × (entry_is_sure notes (entry_at entries job.right) ≡ true)
+both_sure notes entries job kept = both (entry_is_sure notes (entry_at entries job.left)) (entry_is_sure notes (entry_at entries job.right)) job.turns kept
+
+ready_sure : (notes : List PlugNote) (entry : Entry) (sheet : SheetData) → entry_is_sure notes entry ≡ true → entry.draft ≡ Ready sheet → sheet_is_sure notes sheet ≡ true
+ready_sure notes entry sheet sure is =
+    let drafted : draft_is_sure notes entry.draft ≡ true = second (entry.noise.n == 0) (draft_is_sure notes entry.draft) sure in
+    rw is at drafted
+
+-- the sheet of a sure entry plays a sure automaton, and has its players
+pub entry_plays_sure : SureIsTested → (players right : List Lasting) (notes : List PlugNote) (entry : Entry) (sheet : SheetData) → Fits players right → notes ≡ notes_of players
+    → entry_is_sure notes entry ≡ true → entry.draft ≡ Ready sheet → IsSure (entry_automaton players sheet)
+entry_plays_sure tested players right notes entry sheet fits noted sure is =
+    (tested (entry_automaton players sheet)).0 (sheet_plays_sure players sheet (ready_sure (notes_of players) entry sheet (rw noted at sure) is))
+
+pub entry_known : (players right : List Lasting) (notes : List PlugNote) (entry : Entry) (sheet : SheetData) → Fits players right → notes ≡ notes_of players
+    → entry_is_sure notes entry ≡ true → entry.draft ≡ Ready sheet → IsKnown players sheet
+entry_known players right notes entry sheet fits noted sure is = sheet_known players sheet (ready_sure (notes_of players) entry sheet (rw noted at sure) is)

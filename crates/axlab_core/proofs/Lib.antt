@@ -1,4 +1,4 @@
-pub mod Answering
+pub mod Loading
 pub mod Completeness
 pub mod Entries
 pub mod Padded

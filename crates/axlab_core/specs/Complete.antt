@@ -1,41 +1,35 @@
 -- When the program must answer, refuse, or fail to read. Want of memory is always free.
-use Rattle.std.specs.Prelude.{◌≡◌, ◌⊎◌, ℕ, List, Option, Some, None, Ok, Err}
-use Rattle.lab_file.specs.declared.entries.PlainLab.{PlainLab}
-use Rattle.lab_ports.specs.declared.refusal.Refusal.{Refusal}
+use Rattle.std.specs.Prelude.{◌≡◌, ◌⊎◌, ℕ, List, [], Option, Some, Result, Ok, Err}
 use Rattle.player_core.specs.State.{Lasting}
-use Rattle.lab_ports.specs.Holding.{Holding, file_of}
-use Rattle.axlab_core.specs.Right.{lab_of}
+use Rattle.player_core.specs.Bench.{notes_of}
+use Rattle.lab_ports.specs.declared.refusal.Refusal.{Refusal}
+use Rattle.lab_ports.specs.Holding.{Holding}
+use Rattle.lab_file.specs.declared.command.Command.TheVariants as commands
+use Rattle.lab_file.specs.Lab.{LabData}
+use Rattle.axlab_core.specs.Loading.{Stop, Missing, Refuses, lab_for, lab_source, machine_source}
 use Rattle.axlab_core.specs.declared.words.Form.{Form}
 use Rattle.axlab_core.specs.declared.words.Form.TheVariants.{Match}
 use Rattle.axlab_core.specs.declared.status.Status.{Status}
 use Rattle.axlab_core.specs.declared.status.Status.TheVariants.{NoMemory}
 
--- the words are `match` and a lab, and the library tells that it holds these bytes under the lab's name
-pub record HoldsFile (form : Form) (name : List ℕ) (holding : Option Holding) (bytes : List ℕ) : Type 0 where
+-- the words are `match` and a lab, and the library tells that it holds files that make this of the lab of this name
+pub record Holds (form : Form) (players : List Lasting) (name : List ℕ) (holding : Option Holding) (answer : Result LabData Stop) : Type 0 where
   pub form_is : form ≡ Match
   pub files : Holding
   pub told : holding ≡ Some files
-  pub file : file_of name files ≡ Some bytes
+  pub is : lab_for commands.Match (notes_of players) (lab_source (Some files) [] name) (machine_source (Some files) []) ≡ answer
 
--- the library tells that it holds a lab of this name
-pub record HoldsLab (form : Form) (players : List Lasting) (name : List ℕ) (holding : Option Holding) : Type 0 where
-  pub bytes : List ℕ
-  pub held : HoldsFile form name holding bytes
-  pub lab : PlainLab
-  pub lab_is : lab_of players bytes ≡ Ok lab
+-- it holds a lab whose match keeps the limits
+abbrev pub HoldsLab : Form → List Lasting → List ℕ → Option Holding → Type 0
+HoldsLab form players name holding = (lab : LabData) × Holds form players name holding (Ok lab)
 
--- the library tells that it holds a file of this name that is refused so
-pub record HoldsRefused (form : Form) (players : List Lasting) (name : List ℕ) (holding : Option Holding) (refusal : Refusal) : Type 0 where
-  pub bytes : List ℕ
-  pub held : HoldsFile form name holding bytes
-  pub refused : lab_of players bytes ≡ Err refusal
+-- it holds files that are refused so
+abbrev pub HoldsRefused : Form → List Lasting → List ℕ → Option Holding → Refusal → Type 0
+HoldsRefused form players name holding refusal = Holds form players name holding (Err (Refuses refusal))
 
--- the library tells that it holds no file of this name
-pub record LacksLab (form : Form) (name : List ℕ) (holding : Option Holding) : Type 0 where
-  pub form_is : form ≡ Match
-  pub files : Holding
-  pub told : holding ≡ Some files
-  pub none : file_of name files ≡ None
+-- it lacks the lab, or the file of an entry before which nothing is refused
+abbrev pub LacksFile : Form → List Lasting → List ℕ → Option Holding → Type 0
+LacksFile form players name holding = Holds form players name holding (Err Missing)
 
 -- this status, or want of memory
 abbrev pub IsStatusOrMemory : Status → Status → Type 0

@@ -1,9 +1,11 @@
 pub mod Commands
 pub mod Complete
+pub mod Loading
 pub mod Outcome
 pub mod Report
 pub mod Right
 pub mod Sides
+pub mod Steps
 pub mod Texts
 pub mod WordList
 pub mod Words

@@ -2,6 +2,7 @@
 //! the report.
 #![tactic(auto)]
 
+mod load;
 mod report;
 mod run;
 mod status;

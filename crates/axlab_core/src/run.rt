@@ -1,5 +1,5 @@
 //! Runs a command.
-ghost use Rattle.std.specs.Prelude.{◌≡◌, ◌≢◌, ◌↔◌, ℕ, IfOk, string_bytes};
+ghost use Rattle.std.specs.Prelude.{◌≡◌, ◌≢◌, ◌↔◌, ◌<◌, ℕ, All, length, Some, Ok, IfOk, string_bytes};
 ghost use Rattle.player_core.specs.State.{lasting_of};
 ghost use Rattle.player_core.specs.Fits.{Fits};
 ghost use Rattle.player_core.specs.Counts.{turns_of};
@@ -7,28 +7,31 @@ ghost use Rattle.player_core.specs.Bench.{notes_of};
 ghost use Rattle.lab_ports.specs.Causes.{Rose};
 ghost use Rattle.lab_ports.specs.declared.refusal.Refusal.{Refusal};
 ghost use Rattle.lab_ports.specs.declared.refusal.Refusal.TheVariants.{NotBuilt};
-ghost use Rattle.lab_file.specs.Plain.{IsSound};
-ghost use Rattle.axlab_core.specs.Complete.{HoldsLab, HoldsRefused, LacksLab, IsStatusOrMemory};
+ghost use Rattle.lab_file.specs.declared.command.Command.TheVariants as commands;
+ghost use Rattle.strategy_file.specs.declared.draft.Draft.TheVariants.{Ready};
+ghost use Rattle.lab_file.specs.Lab.{IsMatchJob, entry_at};
+ghost use Rattle.lab_file.specs.Limits.{match_limits, limits_of};
+ghost use Rattle.axlab_core.specs.Complete.{HoldsLab, HoldsRefused, LacksFile, IsStatusOrMemory};
 ghost use Rattle.axlab_core.specs.Outcome.{OnAnswered, OnWriteFault, OnReadFault, IfRefused, IfDenied, OnUnwritten, OnOther};
 ghost use Rattle.axlab_core.specs.Right.{IsRightMatch, IsAskedMatch, Wrote, WrotePart, WhyRefused, WhyUnread, Told};
 ghost use Rattle.axlab_core.specs.Sides.{KeepsBench};
+ghost use Rattle.axlab_core.specs.Steps.{IsReadyEntry};
 ghost use Rattle.axlab_core.specs.Texts.{status_text};
 ghost use Rattle.axlab_core.specs.WordList.{word_list};
 ghost use Rattle.axlab_core.specs.Words.{form_of, lab_name};
 ghost use Rattle.axlab_core.specs.declared.words.Form.TheVariants.{Match, Unbuilt, Faulty};
 
+use crate::load::{LoadError, load_lab};
 use crate::report::match_report;
 use crate::texts::status_text;
 use crate::{Form, Status};
-use history_model::{Game, Noise};
-use lab_file::{PlainLab, read_plain};
-use lab_ports::{FileError, Library, LibraryError, Refusal, Sink, send};
+use lab_file::{Command, Lab, MatchJob};
+use lab_ports::{Library, Refusal, Sink, send};
 use match_play::play_sheets;
 use player_core::laws::{keeping_lasts, sure_is_tested};
-use player_core::{Bench, Player, PlugNote, Seats, Side};
+use player_core::{Bench, Player, PlugNote, Seats, Sheet, Side};
 use std::alloc::{AllocError, Global};
-
-const MAX_LAB: usize = 1_048_576;
+use strategy_file::Draft;
 
 // The name of the lab.
 fn lab_name(words: &Vec<String>) -> &str
@@ -38,32 +41,59 @@ fn lab_name(words: &Vec<String>) -> &str
     words[1].as_str()
 }
 
+// The sheet of the entry at a place.
+fn sheet_at(lab: &Lab, place: u32) -> &Sheet
+    requires inside { place < length lab.now.entries }
+    requires ready { All IsReadyEntry lab.now.entries }
+    ensures { (entry_at lab.now.entries place).draft ≡ Ready result.now }
+{
+    match &lab.entries.at(place as usize).draft {
+        Draft::Ready(sheet) => sheet,
+        Draft::FromFile(_) => unreachable!(),
+    }
+}
+
+// The job of a lab that keeps the limits of `match`.
+fn match_job(lab: &Lab, notes: &Vec<PlugNote>) -> MatchJob
+    requires kept { limits_of notes.now.items commands.Match lab.now ≡ Ok tt }
+    ensures job { lab.now.jobs.match_job ≡ Some result }
+    ensures sound { IsMatchJob (length lab.now.entries) result }
+    ensures sure { match_limits notes.now.items lab.now.entries result ≡ Ok tt }
+{
+    lab.shape();
+    match lab.jobs.match_job {
+        Some(job) => job,
+        None => unreachable!(),
+    }
+}
+
 // The report of the lab's match, which the bench's players play.
-fn match_bytes(alloc: Global, lab: &PlainLab, bench: &mut Bench) -> Result<String, AllocError>
+fn match_bytes(
+    alloc: Global,
+    lab: &Lab,
+    notes: &Vec<PlugNote>,
+    bench: &mut Bench,
+) -> Result<String, AllocError>
     requires fits { Fits (lasting_of (⟦<Side as Seats>⟧.seats bench.old.left)) (lasting_of (⟦<Side as Seats>⟧.seats bench.old.right)) }
-    requires sound { IsSound (notes_of (lasting_of (⟦<Side as Seats>⟧.seats bench.old.left))) lab.now }
+    requires notes { notes.now.items ≡ notes_of (lasting_of (⟦<Side as Seats>⟧.seats bench.old.left)) }
+    requires kept { limits_of notes.now.items commands.Match lab.now ≡ Ok tt }
+    requires ready { All IsReadyEntry lab.now.entries }
     ensures right { IfOk result (λ s. IsRightMatch (lasting_of (⟦<Side as Seats>⟧.seats bench.old.left)) lab.now (string_bytes s)) }
     ensures asked { IsAskedMatch (lasting_of (⟦<Side as Seats>⟧.seats bench.old.left)) lab.now (record { left = turns_of (⟦<Side as Seats>⟧.seats bench.old.left); right = turns_of (⟦<Side as Seats>⟧.seats bench.old.right) }) (record { left = turns_of (⟦<Side as Seats>⟧.seats bench.new.left); right = turns_of (⟦<Side as Seats>⟧.seats bench.new.right) }) }
     ensures kept { KeepsBench (lasting_of (⟦<Side as Seats>⟧.seats bench.old.left)) (lasting_of (⟦<Side as Seats>⟧.seats bench.old.right)) (lasting_of (⟦<Side as Seats>⟧.seats bench.new.left)) (lasting_of (⟦<Side as Seats>⟧.seats bench.new.right)) }
 {
-    let game = Game {
-        r: 3,
-        s: 0,
-        t: 5,
-        p: 1,
-    };
-    let noise = Noise { n: 0, e: 1 };
     sure_is_tested();
-    let left = lab.entries.at(lab.left as usize);
-    let right = lab.entries.at(lab.right as usize);
-    let tally = play_sheets(bench, &left.sheet, &right.sheet, lab.turns);
+    let job = match_job(lab, notes);
+    let left = sheet_at(lab, job.left);
+    let right = sheet_at(lab, job.right);
+    let tally = play_sheets(bench, left, right, job.turns);
     match_report(
         alloc,
-        &game,
-        &noise,
-        &left.name,
-        &right.name,
-        lab.turns,
+        &lab.game,
+        &lab.noise,
+        &lab.entries.at(job.left as usize).name,
+        &lab.entries.at(job.right as usize).name,
+        job.turns,
         &tally,
     )
 }
@@ -82,7 +112,7 @@ fn answer_match<L: Library, O: Sink>(
     ensures answered { OnAnswered result (Wrote Match (lasting_of (⟦<Side as Seats>⟧.seats bench.old.left)) (record { left = turns_of (⟦<Side as Seats>⟧.seats bench.old.left); right = turns_of (⟦<Side as Seats>⟧.seats bench.old.right) }) (record { left = turns_of (⟦<Side as Seats>⟧.seats bench.new.left); right = turns_of (⟦<Side as Seats>⟧.seats bench.new.right) }) name.now (L.holding files.old) (O.taken out.old) (O.taken out.new)) }
     ensures write_fault { OnWriteFault result (WrotePart Match (lasting_of (⟦<Side as Seats>⟧.seats bench.old.left)) name.now (L.holding files.old) (O.taken out.old) (O.taken out.new)) }
     ensures write_cause { OnWriteFault result (Rose (O.faults out.old) (O.faults out.new)) }
-    ensures read_fault { OnReadFault result (WhyUnread Match name.now (L.holding files.old) (L.faults files.old) (L.faults files.new)) }
+    ensures read_fault { OnReadFault result (WhyUnread Match (lasting_of (⟦<Side as Seats>⟧.seats bench.old.left)) name.now (L.holding files.old) (L.faults files.old) (L.faults files.new)) }
     ensures refused { IfRefused result (WhyRefused Match (lasting_of (⟦<Side as Seats>⟧.seats bench.old.left)) name.now (L.holding files.old)) }
     ensures denied { IfDenied result (λ _. ⊥) }
     ensures no_usage { result ≢ Status.Usage }
@@ -90,21 +120,17 @@ fn answer_match<L: Library, O: Sink>(
     ensures kept { KeepsBench (lasting_of (⟦<Side as Seats>⟧.seats bench.old.left)) (lasting_of (⟦<Side as Seats>⟧.seats bench.old.right)) (lasting_of (⟦<Side as Seats>⟧.seats bench.new.left)) (lasting_of (⟦<Side as Seats>⟧.seats bench.new.right)) }
 {
     keeping_lasts();
-    match files.read(alloc, name, MAX_LAB) {
-        Ok(file) => match read_plain(alloc, file.as_slice(), notes) {
-            Ok(lab) => match match_bytes(alloc, &lab, bench) {
-                Ok(text) => match send(out, text.as_bytes()) {
-                    Ok(()) => Status::Answered,
-                    Err(_) => Status::WriteFault,
-                },
-                Err(_) => Status::NoMemory,
+    match load_lab(alloc, Command::Match, name, notes, files) {
+        Ok(lab) => match match_bytes(alloc, &lab, notes, bench) {
+            Ok(text) => match send(out, text.as_bytes()) {
+                Ok(()) => Status::Answered,
+                Err(_) => Status::WriteFault,
             },
-            Err(FileError::Refused(refusal)) => Status::Refused(refusal),
-            Err(FileError::NoMemory) => Status::NoMemory,
+            Err(_) => Status::NoMemory,
         },
-        Err(LibraryError::Failed) => Status::ReadFault,
-        Err(LibraryError::Missing) => Status::ReadFault,
-        Err(LibraryError::NoMemory) => Status::NoMemory,
+        Err(LoadError::Refused(refusal)) => Status::Refused(refusal),
+        Err(LoadError::Unread) => Status::ReadFault,
+        Err(LoadError::NoMemory) => Status::NoMemory,
     }
 }
 
@@ -120,7 +146,7 @@ fn run_match<L: Library, O: Sink>(
     ensures answered { OnAnswered result (Wrote Match (lasting_of (⟦<Side as Seats>⟧.seats bench.old.left)) (record { left = turns_of (⟦<Side as Seats>⟧.seats bench.old.left); right = turns_of (⟦<Side as Seats>⟧.seats bench.old.right) }) (record { left = turns_of (⟦<Side as Seats>⟧.seats bench.new.left); right = turns_of (⟦<Side as Seats>⟧.seats bench.new.right) }) name.now (L.holding files.old) (O.taken out.old) (O.taken out.new)) }
     ensures write_fault { OnWriteFault result (WrotePart Match (lasting_of (⟦<Side as Seats>⟧.seats bench.old.left)) name.now (L.holding files.old) (O.taken out.old) (O.taken out.new)) }
     ensures write_cause { OnWriteFault result (Rose (O.faults out.old) (O.faults out.new)) }
-    ensures read_fault { OnReadFault result (WhyUnread Match name.now (L.holding files.old) (L.faults files.old) (L.faults files.new)) }
+    ensures read_fault { OnReadFault result (WhyUnread Match (lasting_of (⟦<Side as Seats>⟧.seats bench.old.left)) name.now (L.holding files.old) (L.faults files.old) (L.faults files.new)) }
     ensures refused { IfRefused result (WhyRefused Match (lasting_of (⟦<Side as Seats>⟧.seats bench.old.left)) name.now (L.holding files.old)) }
     ensures denied { IfDenied result (λ _. ⊥) }
     ensures no_usage { result ≢ Status.Usage }
@@ -149,7 +175,7 @@ fn run<L: Library, O: Sink>(
     ensures answered { OnAnswered result (Wrote (form_of (word_list words.now)) (lasting_of (⟦<Side as Seats>⟧.seats bench.old.left)) (record { left = turns_of (⟦<Side as Seats>⟧.seats bench.old.left); right = turns_of (⟦<Side as Seats>⟧.seats bench.old.right) }) (record { left = turns_of (⟦<Side as Seats>⟧.seats bench.new.left); right = turns_of (⟦<Side as Seats>⟧.seats bench.new.right) }) (lab_name (word_list words.now)) (L.holding files.old) (O.taken out.old) (O.taken out.new)) }
     ensures write_fault { OnWriteFault result (WrotePart (form_of (word_list words.now)) (lasting_of (⟦<Side as Seats>⟧.seats bench.old.left)) (lab_name (word_list words.now)) (L.holding files.old) (O.taken out.old) (O.taken out.new)) }
     ensures write_cause { OnWriteFault result (Rose (O.faults out.old) (O.faults out.new)) }
-    ensures read_fault { OnReadFault result (WhyUnread (form_of (word_list words.now)) (lab_name (word_list words.now)) (L.holding files.old) (L.faults files.old) (L.faults files.new)) }
+    ensures read_fault { OnReadFault result (WhyUnread (form_of (word_list words.now)) (lasting_of (⟦<Side as Seats>⟧.seats bench.old.left)) (lab_name (word_list words.now)) (L.holding files.old) (L.faults files.old) (L.faults files.new)) }
     ensures refused { IfRefused result (WhyRefused (form_of (word_list words.now)) (lasting_of (⟦<Side as Seats>⟧.seats bench.old.left)) (lab_name (word_list words.now)) (L.holding files.old)) }
     ensures denied { IfDenied result (λ _. ⊥) }
     ensures untouched { OnUnwritten result (O.taken out.new ≡ O.taken out.old) }
@@ -192,7 +218,7 @@ pub fn axlab<L: Library, O: Sink, E: Sink>(
     ensures usage { (result ≡ Status.Usage) ↔ (form_of (word_list words.now) ≡ Faulty) }
     ensures unbuilt { form_of (word_list words.now) ≡ Unbuilt → result ≡ Status.Refused NotBuilt }
     ensures unread { form_of (word_list words.now) ≢ Match → files.new ≡ files.old }
-    ensures read_fault { OnReadFault result (WhyUnread (form_of (word_list words.now)) (lab_name (word_list words.now)) (L.holding files.old) (L.faults files.old) (L.faults files.new)) }
+    ensures read_fault { OnReadFault result (WhyUnread (form_of (word_list words.now)) (lasting_of (⟦<Side as Seats>⟧.seats bench.old.left)) (lab_name (word_list words.now)) (L.holding files.old) (L.faults files.old) (L.faults files.new)) }
     ensures refused { IfRefused result (WhyRefused (form_of (word_list words.now)) (lasting_of (⟦<Side as Seats>⟧.seats bench.old.left)) (lab_name (word_list words.now)) (L.holding files.old)) }
     ensures write_fault { OnWriteFault result (Rose (O.faults out.old) (O.faults out.new)) }
     ensures denied { IfDenied result (λ _. ⊥) }
@@ -202,7 +228,7 @@ pub fn axlab<L: Library, O: Sink, E: Sink>(
         → ¬ Rose (L.faults files.old) (L.faults files.new) → ¬ Rose (O.faults out.old) (O.faults out.new) → IsStatusOrMemory Status.Answered result }
     ensures refuses { (refusal : Refusal) → HoldsRefused (form_of (word_list words.now)) (lasting_of (⟦<Side as Seats>⟧.seats bench.old.left)) (lab_name (word_list words.now)) (L.holding files.old) refusal
         → ¬ Rose (L.faults files.old) (L.faults files.new) → IsStatusOrMemory (Status.Refused refusal) result }
-    ensures misses { LacksLab (form_of (word_list words.now)) (lab_name (word_list words.now)) (L.holding files.old) → IsStatusOrMemory Status.ReadFault result }
+    ensures misses { LacksFile (form_of (word_list words.now)) (lasting_of (⟦<Side as Seats>⟧.seats bench.old.left)) (lab_name (word_list words.now)) (L.holding files.old) → IsStatusOrMemory Status.ReadFault result }
 
     // The bench goes on fitting, with the same plugs and plug automata.
     ensures kept { KeepsBench (lasting_of (⟦<Side as Seats>⟧.seats bench.old.left)) (lasting_of (⟦<Side as Seats>⟧.seats bench.old.right)) (lasting_of (⟦<Side as Seats>⟧.seats bench.new.left)) (lasting_of (⟦<Side as Seats>⟧.seats bench.new.right)) }

@@ -26,6 +26,3 @@ rows_of_machine sheet (k ∷ ks) = rw (one_or_none k) (rows_of_machine sheet ks)
 pub machines_are_sure : (sheet : SheetData) → is_sure (machine_automaton sheet) ≡ true
 machines_are_sure sheet = rows_of_machine sheet (range_with_len 0 (2 * states sheet))
 
--- STUB
-pub table_sureness : (sheet : SheetData) → IsTable sheet → is_sure (table_automaton sheet) ≡ (list_all (is_sure_weight sheet.den) sheet.opening && list_all (is_sure_weight sheet.den) sheet.table)
-table_sureness sheet table = ?

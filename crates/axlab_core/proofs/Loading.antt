@@ -1,0 +1,186 @@
+-- The lab of a command, read by read.
+use Rattle.std.proofs.Common.{◌≡◌, ◌⊎◌, ℕ, zero, suc, ◌+◌, ◌<◌, ◌≤◌, true, List, [], ◌∷◌, ◌++◌, All, length, take, drop, set, slice_get, get_or, Option, Some, None, option_map, Result, Ok, Err, refl, sym, ◌∙◌, ap, inl, inr, arith, add-one, drop-cons}
+use Rattle.std.proofs.lemmas.List.{append_assoc, length-append, take_all, drop_all, take_more_set, drop-set-lt, set_split, take-append-drop}
+use Rattle.std.proofs.lemmas.List.Elements.{All-push}
+use Rattle.player_core.specs.declared.bench.PlugNote.{PlugNote}
+use Rattle.lab_ports.specs.declared.refusal.Refusal.{Refusal}
+use Rattle.lab_ports.specs.declared.refusal.FileError.{FileError}
+use Rattle.lab_ports.specs.declared.refusal.FileError.TheVariants as file
+use Rattle.lab_ports.specs.Holding.{Holding, IsFront, IsMissing, file_of}
+use Rattle.lab_keys.specs.Refusing.{IsErrorOf}
+use Rattle.strategy_file.specs.declared.draft.Draft.{Draft}
+use Rattle.strategy_file.specs.declared.draft.Draft.TheVariants.{Ready, FromFile}
+use Rattle.strategy_file.specs.declared.draft.MachineFile.{MachineFile}
+use Rattle.lab_file.specs.declared.command.Command.{Command}
+use Rattle.lab_file.specs.declared.lab.Entry.{Entry}
+use Rattle.lab_file.specs.Lab.{LabData, entry_at, no_entry}
+use Rattle.lab_file.specs.LabOf.{lab_of}
+use Rattle.lab_file.specs.Attached.{attached, draft_with, set_draft}
+use Rattle.lab_file.specs.Limits.{limits_of}
+use Rattle.axlab_core.specs.declared.load.LoadError.{LoadError}
+use Rattle.axlab_core.specs.declared.load.LoadError.TheVariants.{Unread, Refused, NoMemory}
+use Rattle.axlab_core.specs.Loading.{Stop, Missing, Refuses, ◌>>=◌, or_missing, or_stop, front_of, lab_source, machine_source, draft_read, entries_read, lab_given, lab_for, Loads, IsTold}
+use Rattle.axlab_core.specs.Steps.{of_file, ReadFails, Explains, IsReadyDraft, IsReadyEntry, ReadsLab, Attaches, StepStops, AttachesAll, AttachStops}
+
+-- what a read gave is what the source has
+lab_gave : (holding : Option Holding) (name bytes : List ℕ) → IsFront holding name 1048576 bytes → lab_source holding bytes name ≡ Some bytes
+lab_gave None name bytes front = refl
+lab_gave (Some files) name bytes front = front
+
+lab_lacks : (holding : Option Holding) (name given : List ℕ) → IsMissing holding name → lab_source holding given name ≡ None
+lab_lacks None name given missing = absurd missing
+lab_lacks (Some files) name given missing = rw missing refl
+
+told : (holding : Option Holding) (name : List ℕ) → IsMissing holding name → IsTold holding
+told None name missing = absurd missing
+told (Some files) name missing = refl
+
+get_there : (given more : List (List ℕ)) (bytes : List ℕ) → slice_get (given ++ bytes ∷ more) (length given) ≡ Some bytes
+get_there [] more bytes = refl
+get_there (one ∷ given) more bytes = get_there given more bytes
+
+machine_gave : (holding : Option Holding) (given more : List (List ℕ)) (place : ℕ) (name bytes : List ℕ) → length given ≡ place → IsFront holding name 1048576 bytes
+    → machine_source holding (given ++ bytes ∷ more) place name ≡ Some bytes
+machine_gave None given more place name bytes count front = rw (sym count) (get_there given more bytes)
+machine_gave (Some files) given more place name bytes count front = front
+
+machine_lacks : (holding : Option Holding) (given : List (List ℕ)) (place : ℕ) (name : List ℕ) → IsMissing holding name → machine_source holding given place name ≡ None
+machine_lacks None given place name missing = absurd missing
+machine_lacks (Some files) given place name missing = rw missing refl
+
+-- errors say why
+pub explains_read : (error : LoadError) (failed : Type 0) (holding : Option Holding) (name : List ℕ) (stops : Stop → Type 0)
+    → ReadFails error failed (IsMissing holding name) → (IsMissing holding name → stops Missing) → Explains error failed (IsTold holding) stops
+explains_read Unread failed holding name stops (inl fault) missing = inl fault
+explains_read Unread failed holding name stops (inr lacks) missing = inr (told holding name lacks, missing lacks)
+explains_read (Refused refusal) failed holding name stops fails missing = absurd fails
+explains_read NoMemory failed holding name stops fails missing = tt
+
+pub explains_file : {B : Type 0} (reading : Result B Refusal) (error : FileError) (failed is_told : Type 0) (stops : Stop → Type 0)
+    → IsErrorOf reading error → ((refusal : Refusal) → reading ≡ Err refusal → stops (Refuses refusal)) → Explains (of_file error) failed is_told stops
+explains_file reading (file.Refused refusal) failed is_told stops error of = of refusal error
+explains_file reading file.NoMemory failed is_told stops error of = tt
+
+pub explains_more : (error : LoadError) (failed failed' is_told : Type 0) (stops stops' : Stop → Type 0)
+    → Explains error failed is_told stops → (failed → failed') → ((stop : Stop) → stops stop → stops' stop) → Explains error failed' is_told stops'
+explains_more Unread failed failed' is_told stops stops' (inl fault) faults more = inl (faults fault)
+explains_more Unread failed failed' is_told stops stops' (inr missing) faults more = inr (missing.0, more Missing missing.1)
+explains_more (Refused refusal) failed failed' is_told stops stops' why faults more = more (Refuses refusal) why
+explains_more NoMemory failed failed' is_told stops stops' why faults more = tt
+
+-- the lab file
+pub reads_lab : (notes : List PlugNote) (name : List ℕ) (holding : Option Holding) (bytes read : List ℕ) (reading : Result LabData Refusal)
+    → IsFront holding name 1048576 bytes → read ≡ bytes → lab_of notes read ≡ reading → ReadsLab notes name holding (or_stop reading)
+reads_lab notes name holding bytes read reading front same is =
+    record { given = bytes; is = rw (lab_gave holding name bytes front) (ap (λ b. or_stop (lab_of notes b)) (sym same) ∙ ap or_stop is) }
+
+pub reads_nothing : (notes : List PlugNote) (name : List ℕ) (holding : Option Holding) → IsMissing holding name → ReadsLab notes name holding (Err Missing)
+reads_nothing notes name holding missing = record { given = []; is = rw (lab_lacks holding name [] missing) refl }
+
+-- one entry
+pub attaches_ready : (holding : Option Holding) (place : ℕ) (lab : LabData) (sheet_draft : Draft) → place < length lab.entries → (entry_at lab.entries place).draft ≡ sheet_draft
+    → IsReadyDraft sheet_draft → Attaches holding place lab lab
+attaches_ready holding place lab (Ready sheet) inside is ready = record {
+  bytes = [];
+  draft = Ready sheet;
+  read = λ given more count. rw is refl;
+  set = ?;
+}
+attaches_ready holding place lab (FromFile machine) inside is ready = absurd ready
+
+-- the draft that the bytes give, and the lab with it
+with_bytes : (lab now : LabData) (place : ℕ) (bytes : List ℕ) (made : Result Draft Refusal) → draft_with (place + 1) (entry_at lab.entries place).draft bytes ≡ made
+    → attached lab place bytes ≡ Ok now → (draft : Draft) × (made ≡ Ok draft) × (now ≡ record lab { entries = set_draft lab.entries place draft })
+with_bytes lab now place bytes (Ok draft) is all =
+    let found : Ok (record lab { entries = set_draft lab.entries place draft }) ≡ Ok now = rw is at all in
+    (draft, refl, cc)
+with_bytes lab now place bytes (Err refusal) is all =
+    let none : Err refusal ≡ Ok now = rw is at all in
+    absurd (cc)
+
+pub attaches_file : (holding : Option Holding) (place : ℕ) (lab now : LabData) (machine : MachineFile) (bytes read : List ℕ)
+    → (entry_at lab.entries place).draft ≡ FromFile machine → IsFront holding machine.file 1048576 bytes → read ≡ bytes → attached lab place read ≡ Ok now → Attaches holding place lab now
+attaches_file holding place lab now machine bytes read is front same all =
+    let made = with_bytes lab now place bytes _ refl (ap (attached lab place) (sym same) ∙ all) in
+    record {
+      bytes = bytes;
+      draft = made.0;
+      read = λ given more count. rw (is, machine_gave holding given more place machine.file bytes count front) (ap or_stop (rw is at made.1));
+      set = made.2;
+    }
+
+-- a refusal of the whole is one of the draft
+of_draft : (lab : LabData) (place : ℕ) (bytes : List ℕ) (refusal : Refusal) (made : Result Draft Refusal) → draft_with (place + 1) (entry_at lab.entries place).draft bytes ≡ made
+    → attached lab place bytes ≡ Err refusal → made ≡ Err refusal
+of_draft lab place bytes refusal (Ok draft) is all =
+    let found : Ok (record lab { entries = set_draft lab.entries place draft }) ≡ Err refusal = rw is at all in
+    absurd (cc)
+of_draft lab place bytes refusal (Err other) is all =
+    let found : Err other ≡ Err refusal = rw is at all in
+    cc
+
+pub stops_refused : (holding : Option Holding) (place : ℕ) (lab : LabData) (machine : MachineFile) (bytes read : List ℕ) (refusal : Refusal)
+    → (entry_at lab.entries place).draft ≡ FromFile machine → IsFront holding machine.file 1048576 bytes → read ≡ bytes → attached lab place read ≡ Err refusal
+    → StepStops holding place lab (Refuses refusal)
+stops_refused holding place lab machine bytes read refusal is front same all =
+    let made = of_draft lab place bytes refusal _ refl (ap (attached lab place) (sym same) ∙ all) in
+    record {
+      bytes = bytes;
+      read = λ given more count. rw (is, machine_gave holding given more place machine.file bytes count front) (ap or_stop (rw is at made));
+    }
+
+pub stops_missing : (holding : Option Holding) (place : ℕ) (lab : LabData) (machine : MachineFile)
+    → (entry_at lab.entries place).draft ≡ FromFile machine → IsMissing holding machine.file → StepStops holding place lab Missing
+stops_missing holding place lab machine is missing = record {
+  bytes = [];
+  read = λ given more count. rw (is, machine_lacks holding (given ++ [] ∷ more) place machine.file missing) refl;
+}
+
+-- as far as the entries are read
+pub record SoFar (holding : Option Holding) (old now : LabData) (k : ℕ) : Type 0 where
+  pub given : List (List ℕ)
+  pub count : length given ≡ k
+  pub same : (more : List (List ℕ)) → entries_read (machine_source holding (given ++ more)) [] old.entries
+      ≡ entries_read (machine_source holding (given ++ more)) (take k now.entries) (drop k now.entries)
+  pub rest : now ≡ record old { entries = now.entries }
+  pub as_many : length now.entries ≡ length old.entries
+
+pub none_yet : (holding : Option Holding) (lab : LabData) → SoFar holding lab lab 0
+none_yet holding lab = record {
+  given = [];
+  count = refl;
+  same = λ more. refl;
+  rest = refl;
+  as_many = refl;
+}
+
+-- the entry at the place with its draft, and those behind it
+one_more : (source : ℕ → List ℕ → Option (List ℕ)) (entries : List Entry) (k : ℕ) (draft : Draft) → k < length entries → draft_read source k (entry_at entries k).draft ≡ Ok draft
+    → entries_read source (take k entries) (drop k entries) ≡ entries_read source (take (k + 1) (set_draft entries k draft)) (drop (k + 1) (set_draft entries k draft))
+one_more source entries k draft inside read = ?
+
+one_stops : (source : ℕ → List ℕ → Option (List ℕ)) (entries : List Entry) (k : ℕ) (stop : Stop) → k < length entries → draft_read source k (entry_at entries k).draft ≡ Err stop
+    → entries_read source (take k entries) (drop k entries) ≡ Err stop
+one_stops source entries k stop inside read = ?
+
+pub next_step : (holding : Option Holding) (old now new : LabData) (k : ℕ) → k < length now.entries → SoFar holding old now k → Attaches holding k now new → SoFar holding old new (k + 1)
+next_step holding old now new k inside far step = record {
+  given = far.given ++ step.bytes ∷ [];
+  count = ?;
+  same = λ more. ?;
+  rest = ?;
+  as_many = ?;
+}
+
+pub stopped : (holding : Option Holding) (old now : LabData) (k : ℕ) (stop : Stop) → k < length now.entries → SoFar holding old now k → StepStops holding k now stop → AttachStops holding old stop
+stopped holding old now k stop inside far step = record {
+  given = far.given ++ step.bytes ∷ [];
+  is = far.same (step.bytes ∷ []) ∙ one_stops (machine_source holding (far.given ++ step.bytes ∷ [])) now.entries k stop inside (step.read far.given [] far.count);
+}
+
+pub all_read : (holding : Option Holding) (old now : LabData) (k : ℕ) → length now.entries ≤ k → SoFar holding old now k → AttachesAll holding old now
+all_read holding old now k all far = record {
+  given = far.given ++ [];
+  is = far.same [] ∙ rw (take_all k now.entries all, drop_all k now.entries all) refl;
+  rest = far.rest;
+}

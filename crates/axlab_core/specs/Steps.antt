@@ -1,0 +1,71 @@
+-- How a lab is loaded, read by read.
+use Rattle.std.specs.Prelude.{◌≡◌, ◌⊎◌, ℕ, List, [], ◌∷◌, ◌++◌, length, Option, Some, Result, Ok, Err}
+use Rattle.player_core.specs.declared.bench.PlugNote.{PlugNote}
+use Rattle.lab_ports.specs.declared.library.LibraryError.{LibraryError}
+use Rattle.lab_ports.specs.declared.library.LibraryError.TheVariants as library
+use Rattle.lab_ports.specs.declared.refusal.FileError.{FileError}
+use Rattle.lab_ports.specs.declared.refusal.FileError.TheVariants as file
+use Rattle.lab_ports.specs.Holding.{Holding}
+use Rattle.strategy_file.specs.declared.draft.Draft.{Draft}
+use Rattle.strategy_file.specs.declared.draft.Draft.TheVariants.{Ready, FromFile}
+use Rattle.lab_file.specs.declared.lab.Entry.{Entry}
+use Rattle.lab_file.specs.Lab.{LabData, entry_at}
+use Rattle.lab_file.specs.Attached.{set_draft}
+use Rattle.axlab_core.specs.declared.load.LoadError.{LoadError}
+use Rattle.axlab_core.specs.declared.load.LoadError.TheVariants.{Unread, Refused, NoMemory}
+use Rattle.axlab_core.specs.Loading.{Stop, Missing, Refuses, IsTold, lab_source, machine_source, lab_given, draft_read, entries_read}
+
+-- a file's error
+abbrev pub of_file : FileError → LoadError
+of_file (file.Refused refusal) = Refused refusal
+of_file file.NoMemory = NoMemory
+
+-- why a read gave nothing: the library failed, or it lacks the file
+abbrev pub ReadFails : LoadError → Type 0 → Type 0 → Type 0
+ReadFails Unread failed missing = failed ⊎ missing
+ReadFails (Refused refusal) failed missing = ⊥
+ReadFails NoMemory failed missing = Unit {0}
+
+-- why there is no lab: the library failed, or the reads stopped so; a file is missing only where the library tells what it holds
+abbrev pub Explains : LoadError → Type 0 → Type 0 → (Stop → Type 0) → Type 0
+Explains Unread failed told stops = failed ⊎ (told × stops Missing)
+Explains (Refused refusal) failed told stops = stops (Refuses refusal)
+Explains NoMemory failed told stops = Unit {0}
+
+-- an entry whose sheet is there
+abbrev pub IsReadyDraft : Draft → Type 0
+IsReadyDraft (Ready sheet) = Unit {0}
+IsReadyDraft (FromFile machine) = ⊥
+
+abbrev pub IsReadyEntry : Entry → Type 0
+IsReadyEntry entry = IsReadyDraft entry.draft
+
+-- the read of the lab file made this of it
+pub record ReadsLab (notes : List PlugNote) (name : List ℕ) (holding : Option Holding) (answer : Result LabData Stop) : Type 0 where
+  pub given : List ℕ
+  pub is : lab_given notes (lab_source holding given name) ≡ answer
+
+-- the entry at a place has its sheet now; the read for it gave these bytes
+pub record Attaches (holding : Option Holding) (place : ℕ) (old new : LabData) : Type 0 where
+  pub bytes : List ℕ
+  pub draft : Draft
+  pub read : (given more : List (List ℕ)) → length given ≡ place →
+      draft_read (machine_source holding (given ++ bytes ∷ more)) place (entry_at old.entries place).draft ≡ Ok draft
+  pub set : new ≡ record old { entries = set_draft old.entries place draft }
+
+-- the entry at a place has none
+pub record StepStops (holding : Option Holding) (place : ℕ) (old : LabData) (stop : Stop) : Type 0 where
+  pub bytes : List ℕ
+  pub read : (given more : List (List ℕ)) → length given ≡ place →
+      draft_read (machine_source holding (given ++ bytes ∷ more)) place (entry_at old.entries place).draft ≡ Err stop
+
+-- all entries have their sheets now
+pub record AttachesAll (holding : Option Holding) (old new : LabData) : Type 0 where
+  pub given : List (List ℕ)
+  pub is : entries_read (machine_source holding given) [] old.entries ≡ Ok new.entries
+  pub rest : new ≡ record old { entries = new.entries }
+
+-- some entry has none
+pub record AttachStops (holding : Option Holding) (old : LabData) (stop : Stop) : Type 0 where
+  pub given : List (List ℕ)
+  pub is : entries_read (machine_source holding given) [] old.entries ≡ Err stop
