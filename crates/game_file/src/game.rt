@@ -95,8 +95,8 @@ fn noise_at(top: &Table) -> Result<Noise, Refusal>
 }
 
 /// Reads the tables `game` and `noise` of the top of a lab file of this version: the payoffs, the
-/// offset that each of them is raised by, and the noise. It takes no memory. Version 1 has no offset:
-/// it is 0.
+/// offset by which scores count each of them less, and the noise. It takes no memory. Version 1 has
+/// no offset: it is 0.
 ///
 /// `game` may be absent, which means the payoffs 3, 0, 5 and 1. Its keys, all required, are `r`,
 /// `s`, `t` and `p`, from 0 to 1,000,000. `noise` may be absent, which means 0/1. Its keys, both
