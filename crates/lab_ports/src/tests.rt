@@ -1,8 +1,9 @@
 //! What no clause says: that the ports can succeed, and that the words and numbers are the agreed
 //! ones.
 use crate::{
-    FolderLibrary, KeyName, Library, LibraryError, MemoryFile, MemoryLibrary, MemorySink, Place,
-    Refusal, SinkFailed, StreamSink, TableName, send,
+    FileRole, FolderLibrary, KeyName, Library, LibraryError, MemoryFile, MemoryLibrary, MemorySink,
+    Piece, Place, Refusal, RowCause, SinkFailed, StreamSink, TableName, send, send_pieces,
+    tell_refusal,
 };
 use std::alloc::Global;
 use std::io;
@@ -165,4 +166,91 @@ fn names_refusals_and_keys(rt: HostRuntime) {
     assert_eq!(rt; table.word(), "game");
     assert_eq!(rt; key.word(), "p");
     assert_eq!(rt; KeyName::SelfPlay.word(), "self_play");
+}
+
+fn place(table: TableName, entry: u32, key: KeyName) -> Place {
+    Place { table, entry, key }
+}
+
+// Each refusal and what stands behind `axlab: refused ` in its line.
+fn told_refusals() -> [(Refusal, &'static str); 28] {
+    let game = place(TableName::Game, 0, KeyName::P);
+    let entry = place(TableName::Entry, 3, KeyName::Weights);
+    let top = place(TableName::Top, 0, KeyName::Version);
+    let job = place(TableName::Match, 0, KeyName::Left);
+    [
+        (Refusal::TooLong(FileRole::Lab), "1 TooLong lab"),
+        (
+            Refusal::TooLong(FileRole::Machine(2)),
+            "1 TooLong machine 2",
+        ),
+        (Refusal::TooLong(FileRole::Rows), "1 TooLong rows"),
+        (Refusal::TooLong(FileRole::Cert), "1 TooLong certificate"),
+        (Refusal::Syntax, "2 Syntax"),
+        (Refusal::Version, "3 Version"),
+        (Refusal::MissingKey(top), "4 MissingKey top version"),
+        (Refusal::WrongType(entry), "5 WrongType entry 3 weights"),
+        (Refusal::OutOfRange(game), "6 OutOfRange game p"),
+        (Refusal::BadName(3), "7 BadName entry 3"),
+        (Refusal::DoubledName(64), "8 DoubledName entry 64"),
+        (Refusal::UnknownKind(1), "9 UnknownKind entry 1"),
+        (Refusal::BadRows(1, 2), "10 BadRows entry 1 row 2"),
+        (Refusal::UnknownPlug(10), "11 UnknownPlug entry 10"),
+        (Refusal::TooManyRows(7), "12 TooManyRows entry 7"),
+        (Refusal::NoJob, "13 NoJob"),
+        (Refusal::UnknownEntry(job), "14 UnknownEntry match left"),
+        (Refusal::TooManyTurns, "15 TooManyTurns"),
+        (Refusal::TooMuchWork, "16 TooMuchWork"),
+        (Refusal::NotSure(5), "17 NotSure entry 5"),
+        (Refusal::NoFitness, "18 NoFitness"),
+        (Refusal::BadBoard, "19 BadBoard"),
+        (Refusal::DoubledEdge(2), "20 DoubledEdge edge 2"),
+        (
+            Refusal::BadCheckpoint(4, RowCause::BadMark),
+            "21 BadCheckpoint line 4 BadMark",
+        ),
+        (
+            Refusal::BadCheckpoint(1, RowCause::BadLine),
+            "21 BadCheckpoint line 1 BadLine",
+        ),
+        (
+            Refusal::BadCheckpoint(4_294_967_295, RowCause::WrongPair),
+            "21 BadCheckpoint line 4294967295 WrongPair",
+        ),
+        (Refusal::BadCertificate(8), "22 BadCertificate line 8"),
+        (Refusal::NotBuilt, "23 NotBuilt"),
+    ]
+}
+
+#[test]
+fn tells_refusals(rt: HostRuntime) -> Result<(), Fail> {
+    for (refusal, told) in told_refusals() {
+        let mut sink = MemorySink::new(rt.alloc(), 1000, Vec::new(rt.alloc()))?;
+        assert_eq!(rt; tell_refusal(&mut sink, &refusal), Ok(()), "{told}");
+        let text = format!(in rt.alloc(); "axlab: refused {told}\n")?;
+        assert_eq!(rt; sink.bytes.as_slice(), text.as_bytes(), "{told}");
+        let mut failing = MemorySink::new(rt.alloc(), 1000, vec![in rt.alloc(); 2; 1]?)?;
+        assert_eq!(rt;
+            tell_refusal(&mut failing, &refusal),
+            Err(SinkFailed),
+            "{told}"
+        );
+        assert!(rt; text.as_bytes().starts_with(&failing.bytes), "{told}");
+        assert!(rt;
+            failing.bytes.len() > 0 && failing.bytes.len() < text.len(),
+            "{told}"
+        );
+    }
+    let denied = [
+        Piece::Text("axlab: denied at line "),
+        Piece::Number(5),
+        Piece::Text("\n"),
+    ];
+    let mut sink = MemorySink::new(rt.alloc(), 1000, Vec::new(rt.alloc()))?;
+    assert_eq!(rt; send_pieces(&mut sink, &denied), Ok(()));
+    assert_eq!(rt;
+        sink.bytes.as_slice(),
+        b"axlab: denied at line 5\n".as_slice()
+    );
+    Ok(())
 }
