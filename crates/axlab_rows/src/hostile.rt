@@ -239,7 +239,7 @@ pub(crate) fn check(
     };
     let ran = run(alloc, "match lab", around)?;
     let report = if ran.out.is_empty() { "" } else { "report " };
-    let line = str::from_utf8(ran.err.as_slice())?;
+    let line = std::str::from_utf8(ran.err.as_slice())?;
     let got = format!(in alloc; "{} {report}{line}", ran.status.number())?;
     let want = wanted(alloc, short)?;
     if got.as_str() != want.as_str() {
