@@ -1,6 +1,7 @@
 //! A bench is tested before a game, by the players' automata and not by their names alone, and a
 //! player's automaton is read by asking it.
 use history_model::{GridRow, Move, Name};
+use lookup_player::LookupPlayer;
 use machine_player::MachinePlayer;
 use memory_player::MemoryPlayer;
 use player_core::{Bench, Kind, Player, Sheet, Side, no_name, tabulate};
@@ -112,6 +113,8 @@ fn fits_with(alloc: Global, left_echo: Echo, right_echo: Echo) -> Result<(bool, 
     right.push(Box::new(alloc, MemoryPlayer::new(alloc)?)?)?;
     left.push(Box::new(alloc, MachinePlayer::new(alloc)?)?)?;
     right.push(Box::new(alloc, MachinePlayer::new(alloc)?)?)?;
+    left.push(Box::new(alloc, LookupPlayer::new(alloc)?)?)?;
+    right.push(Box::new(alloc, LookupPlayer::new(alloc)?)?)?;
     let mut alternator = PlugPlayer::new(Builtin::Alternator);
     alternator.advance(Move::C, Move::C);
     left.push(Box::new(alloc, alternator)?)?;

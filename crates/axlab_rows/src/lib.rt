@@ -1,8 +1,14 @@
 //! Worked rows of the top call, as tests: what it prints and tells over files and sinks in memory,
-//! and which benches it takes.
+//! which labs it refuses and where, and which benches it takes.
 #![tactic(auto)]
 
 #[cfg(test)]
 mod benches;
+#[cfg(test)]
+mod call;
+#[cfg(test)]
+mod hostile;
+#[cfg(test)]
+mod machine_files;
 #[cfg(test)]
 mod rows;

@@ -1,11 +1,7 @@
 //! The worked rows of the top call, over files and sinks in memory.
-use axlab_core::{Status, axlab};
-use lab_ports::{FileRole, MemoryFile, MemoryLibrary, MemorySink, Refusal};
-use machine_player::MachinePlayer;
-use memory_player::MemoryPlayer;
-use player_core::{Bench, Side};
-use plug_players::{Builtin, PlugPlayer};
-use std::alloc::Global;
+use crate::call::{Around, ECHO, calm, run};
+use axlab_core::Status;
+use lab_ports::{FileRole, KeyName, Place, Refusal, TableName};
 use std::test::Fail;
 
 const LAB: &str =
@@ -46,91 +42,63 @@ const MACHINE: &str =
 const MACHINE_REPORT: &str =
     "axlab|1|match\ngame|3|0|5|1|dilemma|yes\nnoise|0|1\nmatch|echo|defector|5|4.000000000000|9.000000000000|right|sure|1|0|0|1|0|4\nend\n";
 
-/// How a call of the program ended, as plain values.
-#[derive(Drop)]
-struct Ran {
-    status: Status,
-    out: Vec<u8>,
-    err: Vec<u8>,
-    calls: u32,
-}
+// The same machine with its rows in a file.
+const FILED: &str =
+    "version = 1\n[[entry]]\nname = \"echo\"\nkind = \"machine\"\nstart = 0\nopening = \"C\"\nfile = \"machine.csv\"\n[[entry]]\nname = \"defector\"\nkind = \"plug\"\nplug = \"Defector\"\n[match]\nleft = \"echo\"\nright = \"defector\"\nturns = 5\n";
 
-/// What stands around a call: the lab's text, the call of the library and of the sink that fails
-/// (0 for none), and the sink's room.
-#[derive(Clone, Copy)]
-struct Around<'a> {
-    text: &'a str,
-    failing_read: u32,
-    failing_write: u32,
-    room: u32,
-}
+// A table that looks at nothing.
+const CONSTANT: &str =
+    "version = 1\n[[entry]]\nname = \"constant\"\nkind = \"lookup\"\nden = 1\nown = 0\nother = 0\nfirst = 0\nopening = []\ntable = [0]\n[[entry]]\nname = \"tft\"\nkind = \"plug\"\nplug = \"Tit For Tat\"\n[match]\nleft = \"constant\"\nright = \"tft\"\nturns = 3\n";
 
-const CALM: Around<'static> = Around {
-    text: LAB,
-    failing_read: 0,
-    failing_write: 0,
-    room: 1000,
-};
+const CONSTANT_REPORT: &str =
+    "axlab|1|match\ngame|3|0|5|1|dilemma|yes\nnoise|0|1\nmatch|constant|tft|3|7.000000000000|2.000000000000|left|sure|0|1|0|0|1|2\nend\n";
 
-fn numbers(alloc: Global, number: u32) -> Result<Vec<u32>, Fail> {
-    let mut numbers = Vec::new(alloc);
-    numbers.push(number)?;
-    Ok(numbers)
-}
+// A table that defects where the other played C and then D.
+const OLDEST: &str =
+    "version = 1\n[[entry]]\nname = \"oldest\"\nkind = \"lookup\"\nden = 1\nown = 0\nother = 2\nfirst = 0\nopening = [1, 1]\ntable = [1, 0, 1, 1]\n[[entry]]\nname = \"alternator\"\nkind = \"plug\"\nplug = \"Alternator\"\n[match]\nleft = \"oldest\"\nright = \"alternator\"\nturns = 4\n";
 
-// Runs the program on the words, which are cut at spaces, over a library that holds `lab`.
-fn run(alloc: Global, line: &str, around: Around<'_>) -> Result<Ran, Fail> {
-    let mut words = Vec::new(alloc);
-    for word in line.split_whitespace() {
-        words.push(String::from_str(alloc, word)?)?;
-    }
-    let mut files = Vec::new(alloc);
-    files.push(MemoryFile {
-        name: b"lab".as_slice().to_vec(alloc)?,
-        bytes: around.text.as_bytes().to_vec(alloc)?,
-    })?;
-    let mut library = MemoryLibrary::new(files, numbers(alloc, around.failing_read)?);
-    let mut out = MemorySink::new(alloc, around.room, numbers(alloc, around.failing_write)?)?;
-    let mut err = MemorySink::new(alloc, 1000, Vec::new(alloc))?;
-    let mut left: Side = Vec::new(alloc);
-    let mut right: Side = Vec::new(alloc);
-    left.push(Box::new(alloc, MemoryPlayer::new(alloc)?)?)?;
-    right.push(Box::new(alloc, MemoryPlayer::new(alloc)?)?)?;
-    left.push(Box::new(alloc, MachinePlayer::new(alloc)?)?)?;
-    right.push(Box::new(alloc, MachinePlayer::new(alloc)?)?)?;
-    for which in Builtin::ALL {
-        left.push(Box::new(alloc, PlugPlayer::new(which))?)?;
-        right.push(Box::new(alloc, PlugPlayer::new(which))?)?;
-    }
-    let mut bench = Bench { left, right };
-    if !bench.fits() {
-        return Err(Fail::from("the bench doesn't fit"));
-    }
-    let status = axlab(alloc, &words, &mut library, &mut out, &mut err, &mut bench);
-    Ok(Ran {
-        status,
-        out: out.bytes,
-        err: err.bytes,
-        calls: library.calls,
-    })
-}
+const OLDEST_REPORT: &str =
+    "axlab|1|match\ngame|3|0|5|1|dilemma|yes\nnoise|0|1\nmatch|oldest|alternator|4|8.000000000000|13.000000000000|right|sure|3|2|1|2|1|0\nend\n";
+
+const HALF: &str = "version = 1\n[game]\nr = 3\ns = 0\nt = 5\np = 0.5\n";
+
+const DOUBLED: &str =
+    "version = 1\n[[entry]]\nname = \"defector\"\nkind = \"plug\"\nplug = \"Defector\"\n[[entry]]\nname = \"defector\"\nkind = \"fsm\"\n";
+
+const DEEP: &str =
+    "version = 1\n[[entry]]\nname = \"deep\"\nkind = \"lookup\"\nden = 1\nown = 4\nother = 4\nfirst = 1\n";
+
+// The second entry is refused before the first one's file is read.
+const TWO_FAULTS: &str =
+    "version = 1\n[[entry]]\nname = \"echo\"\nkind = \"machine\"\nstart = 0\nopening = \"C\"\nfile = \"machine.csv\"\n[[entry]]\nname = \"vector\"\nkind = \"memory-one\"\nden = 0\n";
+
+const DOUBLED_ROW: &str = "state,heard,next,play\n0,C,0,C\n0,D,0,D\n0,C,0,D\n";
+
+const LACKING_ROW: &str = "state,heard,next,play\n0,C,0,C\n";
 
 #[test]
 fn plays_sure_matches(rt: HostRuntime) -> Result<(), Fail> {
     let rows = [
-        (LAB, REPORT),
-        (COOPERATOR, COOPERATOR_REPORT),
-        (ECHOES, ECHOES_REPORT),
-        (TRUSTING, COOPERATOR_REPORT),
-        (GRUDGE, GRUDGE_REPORT),
-        (MACHINE, MACHINE_REPORT),
+        (LAB, REPORT, 1),
+        (COOPERATOR, COOPERATOR_REPORT, 1),
+        (ECHOES, ECHOES_REPORT, 1),
+        (TRUSTING, COOPERATOR_REPORT, 1),
+        (GRUDGE, GRUDGE_REPORT, 1),
+        (MACHINE, MACHINE_REPORT, 1),
+        (FILED, MACHINE_REPORT, 2),
+        (CONSTANT, CONSTANT_REPORT, 1),
+        (OLDEST, OLDEST_REPORT, 1),
     ];
-    for (text, report) in rows {
-        let ran = run(rt.alloc(), "match lab", Around { text, ..CALM })?;
+    for (text, report, calls) in rows {
+        let around = Around {
+            machine: ECHO,
+            ..calm(text.as_bytes())
+        };
+        let ran = run(rt.alloc(), "match lab", around)?;
         assert_eq!(rt; ran.status, Status::Answered);
         assert_eq!(rt; ran.out.as_slice(), report.as_bytes());
         assert_eq!(rt; ran.err.len(), 0);
-        assert_eq!(rt; ran.calls, 1);
+        assert_eq!(rt; ran.calls, calls);
     }
     Ok(())
 }
@@ -162,7 +130,7 @@ fn tells_the_cause_of_each_other_status(rt: HostRuntime) -> Result<(), Fail> {
         ("match other", Status::ReadFault, "axlab: read fault\n", 1),
     ];
     for (line, status, text, calls) in rows {
-        let ran = run(rt.alloc(), line, CALM)?;
+        let ran = run(rt.alloc(), line, calm(LAB.as_bytes()))?;
         assert_eq!(rt; ran.status, status, "{line}");
         assert_eq!(rt; ran.err.as_slice(), text.as_bytes());
         assert_eq!(rt; ran.out.len(), 0);
@@ -172,20 +140,92 @@ fn tells_the_cause_of_each_other_status(rt: HostRuntime) -> Result<(), Fail> {
 }
 
 #[test]
-fn refuses_what_is_not_plain(rt: HostRuntime) -> Result<(), Fail> {
+fn refuses_labs(rt: HostRuntime) -> Result<(), Fail> {
+    let (no_job, _) = LAB.split_once("[match]").ok_or("no match")?;
+    let payoff = Place {
+        table: TableName::Game,
+        entry: 0,
+        key: KeyName::P,
+    };
+    let depth = Place {
+        table: TableName::Entry,
+        entry: 1,
+        key: KeyName::First,
+    };
+    let denominator = Place {
+        table: TableName::Entry,
+        entry: 2,
+        key: KeyName::Den,
+    };
     let rows = [
         (
-            "version = 2",
-            Refusal::NotBuilt,
-            "axlab: refused 23 NotBuilt\n",
+            "version = ",
+            "",
+            Refusal::Syntax,
+            "axlab: refused 2 Syntax\n",
+            1,
         ),
-        ("version = ", Refusal::Syntax, "axlab: refused 2 Syntax\n"),
+        (
+            "version = 2",
+            "",
+            Refusal::Version,
+            "axlab: refused 3 Version\n",
+            1,
+        ),
+        (
+            HALF,
+            "",
+            Refusal::WrongType(payoff),
+            "axlab: refused 5 WrongType game p\n",
+            1,
+        ),
+        (
+            DOUBLED,
+            "",
+            Refusal::DoubledName(2),
+            "axlab: refused 8 DoubledName entry 2\n",
+            1,
+        ),
+        (
+            DEEP,
+            "",
+            Refusal::OutOfRange(depth),
+            "axlab: refused 6 OutOfRange entry 1 first\n",
+            1,
+        ),
+        (
+            TWO_FAULTS,
+            LACKING_ROW,
+            Refusal::OutOfRange(denominator),
+            "axlab: refused 6 OutOfRange entry 2 den\n",
+            1,
+        ),
+        (
+            FILED,
+            DOUBLED_ROW,
+            Refusal::BadRows(1, 3),
+            "axlab: refused 10 BadRows entry 1 row 3\n",
+            2,
+        ),
+        (
+            FILED,
+            LACKING_ROW,
+            Refusal::BadRows(1, 2),
+            "axlab: refused 10 BadRows entry 1 row 2\n",
+            2,
+        ),
+        (no_job, "", Refusal::NoJob, "axlab: refused 13 NoJob\n", 1),
     ];
-    for (text, refusal, told) in rows {
-        let ran = run(rt.alloc(), "match lab", Around { text, ..CALM })?;
+    for (text, machine, refusal, told, calls) in rows {
+        let around = Around {
+            machine,
+            ..calm(text.as_bytes())
+        };
+        let ran = run(rt.alloc(), "match lab", around)?;
         assert_eq!(rt; ran.status, Status::Refused(refusal));
         assert_eq!(rt; ran.err.as_slice(), told.as_bytes());
         assert_eq!(rt; ran.out.len(), 0);
+        assert_eq!(rt; ran.calls, calls);
     }
     Ok(())
 }
@@ -196,14 +236,7 @@ fn refuses_a_long_lab(rt: HostRuntime) -> Result<(), Fail> {
     for _ in 0..1_048_577 - LAB.len() {
         text.push('#')?;
     }
-    let ran = run(
-        rt.alloc(),
-        "match lab",
-        Around {
-            text: text.as_str(),
-            ..CALM
-        },
-    )?;
+    let ran = run(rt.alloc(), "match lab", calm(text.as_bytes()))?;
     assert_eq!(rt;
         ran.status,
         Status::Refused(Refusal::TooLong(FileRole::Lab))
@@ -217,28 +250,31 @@ fn refuses_a_long_lab(rt: HostRuntime) -> Result<(), Fail> {
 
 #[test]
 fn stops_at_a_fault(rt: HostRuntime) -> Result<(), Fail> {
-    let ran = run(
-        rt.alloc(),
-        "match lab",
-        Around {
-            failing_read: 1,
-            ..CALM
-        },
-    )?;
-    assert_eq!(rt; ran.status, Status::ReadFault);
-    assert_eq!(rt; ran.out.len(), 0);
-    let ran = run(rt.alloc(), "match lab", Around { room: 20, ..CALM })?;
+    for failing_read in [1, 2] {
+        let around = Around {
+            failing_read,
+            machine: ECHO,
+            ..calm(FILED.as_bytes())
+        };
+        let ran = run(rt.alloc(), "match lab", around)?;
+        assert_eq!(rt; ran.status, Status::ReadFault);
+        assert_eq!(rt; ran.err.as_slice(), b"axlab: read fault\n".as_slice());
+        assert_eq!(rt; ran.out.len(), 0);
+        assert_eq!(rt; ran.calls, failing_read);
+    }
+    let around = Around {
+        room: 20,
+        ..calm(LAB.as_bytes())
+    };
+    let ran = run(rt.alloc(), "match lab", around)?;
     assert_eq!(rt; ran.status, Status::WriteFault);
     assert_eq!(rt; ran.out.as_slice(), b"axlab|1|match\ngame|3".as_slice());
     assert_eq!(rt; ran.err.as_slice(), b"axlab: write fault\n".as_slice());
-    let ran = run(
-        rt.alloc(),
-        "match lab",
-        Around {
-            failing_write: 1,
-            ..CALM
-        },
-    )?;
+    let around = Around {
+        failing_write: 1,
+        ..calm(LAB.as_bytes())
+    };
+    let ran = run(rt.alloc(), "match lab", around)?;
     assert_eq!(rt; ran.status, Status::WriteFault);
     assert_eq!(rt; ran.out.len(), 0);
     Ok(())
