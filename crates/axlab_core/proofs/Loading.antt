@@ -1,6 +1,6 @@
 -- The lab of a command, read by read.
 use Rattle.std.proofs.Common.{◌≡◌, ◌⊎◌, ℕ, zero, suc, ◌+◌, ◌<◌, ◌≤◌, true, List, [], ◌∷◌, ◌++◌, All, length, take, drop, set, slice_get, get_or, Option, Some, None, option_map, Result, Ok, Err, refl, sym, ◌∙◌, ap, inl, inr, arith, add-one, drop-cons}
-use Rattle.std.proofs.lemmas.List.{append_assoc, length-append, take_all, drop_all, take_more_set, drop-set-lt, set_split, take-append-drop}
+use Rattle.std.proofs.lemmas.List.{append_assoc, length-take-le, length-set, length-append, take_all, drop_all, take_more_set, drop-set-lt, set_split, take-append-drop}
 use Rattle.std.proofs.lemmas.List.Elements.{All-push}
 use Rattle.player_core.specs.declared.bench.PlugNote.{PlugNote}
 use Rattle.lab_ports.specs.declared.refusal.Refusal.{Refusal}
@@ -78,13 +78,23 @@ pub reads_nothing : (notes : List PlugNote) (name : List ℕ) (holding : Option 
 reads_nothing notes name holding missing = record { given = []; is = rw (lab_lacks holding name [] missing) refl }
 
 -- one entry
+set_same : {X : Type 0} (xs : List X) (i : ℕ) (d : X) → i < length xs → set xs i (get_or xs i d) ≡ xs
+set_same [] i d inside = absurd (omega arith)
+set_same (x ∷ xs) zero d inside = refl
+set_same (x ∷ xs) (suc i) d inside = ap (λ rest. x ∷ rest) (set_same xs i d (omega arith))
+
+-- what stands there already changes nothing
+set_alike : (entries : List Entry) (place : ℕ) (draft : Draft) → place < length entries → (entry_at entries place).draft ≡ draft → set_draft entries place draft ≡ entries
+set_alike entries place draft inside is =
+    ap (λ d. set entries place (record (entry_at entries place) { draft = d })) (sym is) ∙ set_same entries place no_entry inside
+
 pub attaches_ready : (holding : Option Holding) (place : ℕ) (lab : LabData) (sheet_draft : Draft) → place < length lab.entries → (entry_at lab.entries place).draft ≡ sheet_draft
     → IsReadyDraft sheet_draft → Attaches holding place lab lab
 attaches_ready holding place lab (Ready sheet) inside is ready = record {
   bytes = [];
   draft = Ready sheet;
   read = λ given more count. rw is refl;
-  set = ?;
+  set = ap (λ es. record lab { entries = es }) (sym (set_alike lab.entries place (Ready sheet) inside is));
 }
 attaches_ready holding place lab (FromFile machine) inside is ready = absurd ready
 
@@ -98,14 +108,24 @@ with_bytes lab now place bytes (Err refusal) is all =
     let none : Err refusal ≡ Ok now = rw is at all in
     absurd (cc)
 
+-- the draft of a machine whose file is there
+with_file : (holding : Option Holding) (given : List (List ℕ)) (place : ℕ) (draft : Draft) (machine : MachineFile) (bytes : List ℕ) (made : Result Draft Refusal) → draft ≡ FromFile machine
+    → machine_source holding given place machine.file ≡ Some bytes → draft_with (place + 1) (FromFile machine) bytes ≡ made
+    → draft_read (machine_source holding given) place draft ≡ or_stop made
+with_file holding given place draft machine bytes made is gave drafted =
+    ap (draft_read (machine_source holding given) place) is
+    ∙ ap (λ found. or_missing found >>= λ b. or_stop (draft_with (place + 1) (FromFile machine) b)) gave
+    ∙ ap or_stop drafted
+
 pub attaches_file : (holding : Option Holding) (place : ℕ) (lab now : LabData) (machine : MachineFile) (bytes read : List ℕ)
     → (entry_at lab.entries place).draft ≡ FromFile machine → IsFront holding machine.file 1048576 bytes → read ≡ bytes → attached lab place read ≡ Ok now → Attaches holding place lab now
 attaches_file holding place lab now machine bytes read is front same all =
-    let made = with_bytes lab now place bytes _ refl (ap (attached lab place) (sym same) ∙ all) in
+    let made = with_bytes lab now place bytes (draft_with (place + 1) (entry_at lab.entries place).draft bytes) refl (ap (attached lab place) (sym same) ∙ all) in
+    let given_draft : draft_with (place + 1) (FromFile machine) bytes ≡ Ok made.0 = ap (λ d. draft_with (place + 1) d bytes) (sym is) ∙ made.1 in
     record {
       bytes = bytes;
       draft = made.0;
-      read = λ given more count. rw (is, machine_gave holding given more place machine.file bytes count front) (ap or_stop (rw is at made.1));
+      read = λ given more count. with_file holding (given ++ bytes ∷ more) place (entry_at lab.entries place).draft machine bytes (Ok made.0) is (machine_gave holding given more place machine.file bytes count front) given_draft;
       set = made.2;
     }
 
@@ -123,10 +143,11 @@ pub stops_refused : (holding : Option Holding) (place : ℕ) (lab : LabData) (ma
     → (entry_at lab.entries place).draft ≡ FromFile machine → IsFront holding machine.file 1048576 bytes → read ≡ bytes → attached lab place read ≡ Err refusal
     → StepStops holding place lab (Refuses refusal)
 stops_refused holding place lab machine bytes read refusal is front same all =
-    let made = of_draft lab place bytes refusal _ refl (ap (attached lab place) (sym same) ∙ all) in
+    let made = of_draft lab place bytes refusal (draft_with (place + 1) (entry_at lab.entries place).draft bytes) refl (ap (attached lab place) (sym same) ∙ all) in
+    let given_draft : draft_with (place + 1) (FromFile machine) bytes ≡ Err refusal = ap (λ d. draft_with (place + 1) d bytes) (sym is) ∙ made in
     record {
       bytes = bytes;
-      read = λ given more count. rw (is, machine_gave holding given more place machine.file bytes count front) (ap or_stop (rw is at made));
+      read = λ given more count. with_file holding (given ++ bytes ∷ more) place (entry_at lab.entries place).draft machine bytes (Err refusal) is (machine_gave holding given more place machine.file bytes count front) given_draft;
     }
 
 pub stops_missing : (holding : Option Holding) (place : ℕ) (lab : LabData) (machine : MachineFile)
@@ -157,19 +178,43 @@ none_yet holding lab = record {
 -- the entry at the place with its draft, and those behind it
 one_more : (source : ℕ → List ℕ → Option (List ℕ)) (entries : List Entry) (k : ℕ) (draft : Draft) → k < length entries → draft_read source k (entry_at entries k).draft ≡ Ok draft
     → entries_read source (take k entries) (drop k entries) ≡ entries_read source (take (k + 1) (set_draft entries k draft)) (drop (k + 1) (set_draft entries k draft))
-one_more source entries k draft inside read = ?
+one_more source entries k draft inside read =
+    let entry = entry_at entries k in
+    let drafted : Entry = record entry { draft = draft } in
+    let here : drop k entries ≡ entry ∷ drop (suc k) entries = drop-cons entries k no_entry inside in
+    let count : length (take k entries) ≡ k = length-take-le k entries (omega arith) in
+    let taken : take (k + 1) (set_draft entries k draft) ≡ take k entries ++ drafted ∷ [] = take_more_set entries k drafted inside in
+    let left : drop (k + 1) (set_draft entries k draft) ≡ drop (k + 1) entries = drop-set-lt (k + 1) entries k drafted (omega arith) in
+    ap (entries_read source (take k entries)) here
+    ∙ ap (λ n. draft_read source n entry.draft >>= λ d. entries_read source (take k entries ++ (record entry { draft = d }) ∷ []) (drop (suc k) entries)) count
+    ∙ ap (λ r. r >>= λ d. entries_read source (take k entries ++ (record entry { draft = d }) ∷ []) (drop (suc k) entries)) read
+    ∙ rw (taken, left, add-one k) refl
 
 one_stops : (source : ℕ → List ℕ → Option (List ℕ)) (entries : List Entry) (k : ℕ) (stop : Stop) → k < length entries → draft_read source k (entry_at entries k).draft ≡ Err stop
     → entries_read source (take k entries) (drop k entries) ≡ Err stop
-one_stops source entries k stop inside read = ?
+one_stops source entries k stop inside read =
+    let entry = entry_at entries k in
+    let here : drop k entries ≡ entry ∷ drop (suc k) entries = drop-cons entries k no_entry inside in
+    let count : length (take k entries) ≡ k = length-take-le k entries (omega arith) in
+    ap (entries_read source (take k entries)) here
+    ∙ ap (λ n. draft_read source n entry.draft >>= λ d. entries_read source (take k entries ++ (record entry { draft = d }) ∷ []) (drop (suc k) entries)) count
+    ∙ ap (λ r. r >>= λ d. entries_read source (take k entries ++ (record entry { draft = d }) ∷ []) (drop (suc k) entries)) read
 
 pub next_step : (holding : Option Holding) (old now new : LabData) (k : ℕ) → k < length now.entries → SoFar holding old now k → Attaches holding k now new → SoFar holding old new (k + 1)
-next_step holding old now new k inside far step = record {
+next_step holding old now new k inside far step =
+  let entries_now : new.entries ≡ set_draft now.entries k step.draft = ap (λ (l : LabData). l.entries) step.set in
+  record {
   given = far.given ++ step.bytes ∷ [];
-  count = ?;
-  same = λ more. ?;
-  rest = ?;
-  as_many = ?;
+  count = rw (length-append, far.count) refl;
+  same = λ more.
+      let grown : (far.given ++ step.bytes ∷ []) ++ more ≡ far.given ++ (step.bytes ∷ more) = append_assoc far.given (step.bytes ∷ []) more in
+      let source = machine_source holding (far.given ++ (step.bytes ∷ more)) in
+      let moved : entries_read source [] old.entries ≡ entries_read source (take (k + 1) new.entries) (drop (k + 1) new.entries)
+      = far.same (step.bytes ∷ more) ∙ one_more source now.entries k step.draft inside (step.read far.given more far.count)
+          ∙ ap (λ es. entries_read source (take (k + 1) es) (drop (k + 1) es)) (sym entries_now) in
+      rw grown moved;
+  rest = step.set ∙ ap (λ es. record now { entries = es }) (sym entries_now) ∙ ap (λ (l : LabData). record l { entries = new.entries }) far.rest;
+  as_many = ap length entries_now ∙ length-set now.entries k _ ∙ far.as_many;
 }
 
 pub stopped : (holding : Option Holding) (old now : LabData) (k : ℕ) (stop : Stop) → k < length now.entries → SoFar holding old now k → StepStops holding k now stop → AttachStops holding old stop

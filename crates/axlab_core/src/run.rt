@@ -23,7 +23,7 @@ ghost use Rattle.axlab_core.specs.declared.words.Form.TheVariants.{Match, Unbuil
 
 use crate::load::{LoadError, load_lab};
 use crate::report::match_report;
-use crate::texts::status_text;
+use crate::texts::tell;
 use crate::{Form, Status};
 use lab_file::{Command, Lab, MatchJob};
 use lab_ports::{Library, Refusal, Sink, send};
@@ -186,16 +186,6 @@ fn run<L: Library, O: Sink>(
         Form::Faulty => Status::Usage,
         Form::Unbuilt => Status::Refused(Refusal::NotBuilt),
         Form::Match => run_match(alloc, lab_name(words), files, out, bench),
-    }
-}
-
-// Tells what came in the way of an answer.
-fn tell<E: Sink>(err: &mut E, status: &Status)
-    ensures silent { OnAnswered status.now (E.taken err.new ≡ E.taken err.old) }
-    ensures told { OnOther status.now (Told (status_text status.now) (E.taken err.old) (E.taken err.new) (E.faults err.old) (E.faults err.new)) }
-{
-    if *status != Status::Answered {
-        let _ = send(err, status_text(status).as_bytes());
     }
 }
 
