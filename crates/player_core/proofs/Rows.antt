@@ -18,8 +18,6 @@ pub record SameSoFar (left right left_now right_now : PlayerState) (mark end : �
   pub lasting_right : right_now.lasting ≡ right.lasting
   pub count_left : end ≡ length left.lasting.automaton.rows
   pub count_right : end ≡ length right.lasting.automaton.rows
-  pub den : left.lasting.automaton.den ≡ right.lasting.automaton.den
-  pub start : left.lasting.automaton.start ≡ right.lasting.automaton.start
   pub rows : take mark left.lasting.automaton.rows ≡ take mark right.lasting.automaton.rows
 
 -- the rows below a mark have weights of 0 or the denominator

@@ -98,24 +98,42 @@ pub fn tabulate(alloc: Global, player: &mut Box<dyn Player>) -> Result<Grid, NoM
     }
 }
 
+// Whether two players agree in a row.
+fn same_row(left: &mut Box<dyn Player>, right: &mut Box<dyn Player>, mark: u32) -> bool
+    requires left { mark < length (state left.old).lasting.automaton.rows }
+    requires right { mark < length (state right.old).lasting.automaton.rows }
+    ensures same { IsTrue result ↔ row_at (state left.old).lasting.automaton mark ≡ row_at (state right.old).lasting.automaton mark }
+    ensures left { (state left.new).lasting ≡ (state left.old).lasting }
+    ensures right { (state right.new).lasting ≡ (state right.old).lasting }
+{
+    read_row(left, mark) == read_row(right, mark)
+}
+
+// Whether two players with equally many rows agree in each.
+fn same_rows(left: &mut Box<dyn Player>, right: &mut Box<dyn Player>) -> bool
+    requires { length (state left.old).lasting.automaton.rows ≡ length (state right.old).lasting.automaton.rows }
+    ensures same { IsTrue result ↔ (state left.old).lasting.automaton.rows ≡ (state right.old).lasting.automaton.rows }
+    ensures left { (state left.new).lasting ≡ (state left.old).lasting }
+    ensures right { (state right.new).lasting ≡ (state right.old).lasting }
+{
+    for mark in 0..left.rows() {
+        if !same_row(left, right, mark) {
+            return false;
+        }
+    }
+    true
+}
+
 /// Whether two players have equal automata.
 pub fn same_automata(left: &mut Box<dyn Player>, right: &mut Box<dyn Player>) -> bool
     ensures same { IsTrue result ↔ (state left.old).lasting.automaton ≡ (state right.old).lasting.automaton }
     ensures left { (state left.new).lasting ≡ (state left.old).lasting }
     ensures right { (state right.new).lasting ≡ (state right.old).lasting }
 {
-    let rows = left.rows();
-    if left.den() != right.den() || left.start() != right.start() || rows != right.rows() {
-        return false;
-    }
-    for mark in 0..rows {
-        let one = read_row(left, mark);
-        let other = read_row(right, mark);
-        if one != other {
-            return false;
-        }
-    }
-    true
+    left.den() == right.den()
+        && left.start() == right.start()
+        && left.rows() == right.rows()
+        && same_rows(left, right)
 }
 
 /// Whether every weight of a player's automaton is 0 or the denominator; no advance is made.

@@ -1,5 +1,5 @@
 use Rattle.player_core.proofs.Rows.{SameSoFar}
-use Rattle.player_core.proofs.reading.same_automata.Given as goal
+use Rattle.player_core.proofs.reading.same_rows.Given as goal
 
 abbrev pub invariant-loop-mark : goal.invariant-loop-mark
 invariant-loop-mark g l =
@@ -9,4 +9,4 @@ invariant-loop-mark g l =
     ((goal.Player-dyn g (l.left.vtable, l.left.value)).state l.left.value)
     ((goal.Player-dyn g (l.right.vtable, l.right.value)).state l.right.value)
     l.mark
-    l.rows
+    l.mark-end
