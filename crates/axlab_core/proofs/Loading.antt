@@ -6,10 +6,13 @@ use Rattle.player_core.specs.declared.bench.PlugNote.{PlugNote}
 use Rattle.lab_ports.specs.declared.refusal.Refusal.{Refusal}
 use Rattle.lab_ports.specs.declared.refusal.FileError.{FileError}
 use Rattle.lab_ports.specs.declared.refusal.FileError.TheVariants as file
-use Rattle.lab_ports.specs.Holding.{Holding, IsFront, IsMissing, file_of}
+use Rattle.lab_ports.specs.Causes.{Rose}
+use Rattle.lab_ports.specs.Holding.{Holding, IsFront, IsMissing}
 use Rattle.lab_keys.specs.Refusing.{IsErrorOf}
 use Rattle.strategy_file.specs.declared.draft.Draft.{Draft}
 use Rattle.strategy_file.specs.declared.draft.Draft.TheVariants.{Ready, FromFile}
+use Rattle.player_core.specs.Sheet.{SheetData}
+use Rattle.strategy_file.specs.CsvRows.{csv_sheet}
 use Rattle.strategy_file.specs.declared.draft.MachineFile.{MachineFile}
 use Rattle.lab_file.specs.declared.command.Command.{Command}
 use Rattle.lab_file.specs.declared.lab.Entry.{Entry}
@@ -117,9 +120,10 @@ with_file holding given place draft machine bytes made is gave drafted =
     ∙ ap (λ found. or_missing found >>= λ b. or_stop (draft_with (place + 1) (FromFile machine) b)) gave
     ∙ ap or_stop drafted
 
-pub attaches_file : (holding : Option Holding) (place : ℕ) (lab now : LabData) (machine : MachineFile) (bytes read : List ℕ)
-    → (entry_at lab.entries place).draft ≡ FromFile machine → IsFront holding machine.file 1048576 bytes → read ≡ bytes → attached lab place read ≡ Ok now → Attaches holding place lab now
-attaches_file holding place lab now machine bytes read is front same all =
+pub attaches_file : (holding : Option Holding) (place : ℕ) (lab now : LabData) (machine : MachineFile) (name bytes read : List ℕ)
+    → (entry_at lab.entries place).draft ≡ FromFile machine → name ≡ machine.file → IsFront holding name 1048576 bytes → read ≡ bytes → attached lab place read ≡ Ok now → Attaches holding place lab now
+attaches_file holding place lab now machine name bytes read is named front_of_name same all =
+    let front : IsFront holding machine.file 1048576 bytes = rw named at front_of_name in
     let made = with_bytes lab now place bytes (draft_with (place + 1) (entry_at lab.entries place).draft bytes) refl (ap (attached lab place) (sym same) ∙ all) in
     let given_draft : draft_with (place + 1) (FromFile machine) bytes ≡ Ok made.0 = ap (λ d. draft_with (place + 1) d bytes) (sym is) ∙ made.1 in
     record {
@@ -139,10 +143,11 @@ of_draft lab place bytes refusal (Err other) is all =
     let found : Err other ≡ Err refusal = rw is at all in
     cc
 
-pub stops_refused : (holding : Option Holding) (place : ℕ) (lab : LabData) (machine : MachineFile) (bytes read : List ℕ) (refusal : Refusal)
-    → (entry_at lab.entries place).draft ≡ FromFile machine → IsFront holding machine.file 1048576 bytes → read ≡ bytes → attached lab place read ≡ Err refusal
+pub stops_refused : (holding : Option Holding) (place : ℕ) (lab : LabData) (machine : MachineFile) (name bytes read : List ℕ) (refusal : Refusal)
+    → (entry_at lab.entries place).draft ≡ FromFile machine → name ≡ machine.file → IsFront holding name 1048576 bytes → read ≡ bytes → attached lab place read ≡ Err refusal
     → StepStops holding place lab (Refuses refusal)
-stops_refused holding place lab machine bytes read refusal is front same all =
+stops_refused holding place lab machine name bytes read refusal is named front_of_name same all =
+    let front : IsFront holding machine.file 1048576 bytes = rw named at front_of_name in
     let made = of_draft lab place bytes refusal (draft_with (place + 1) (entry_at lab.entries place).draft bytes) refl (ap (attached lab place) (sym same) ∙ all) in
     let given_draft : draft_with (place + 1) (FromFile machine) bytes ≡ Err refusal = ap (λ d. draft_with (place + 1) d bytes) (sym is) ∙ made in
     record {
@@ -150,12 +155,14 @@ stops_refused holding place lab machine bytes read refusal is front same all =
       read = λ given more count. with_file holding (given ++ bytes ∷ more) place (entry_at lab.entries place).draft machine bytes (Err refusal) is (machine_gave holding given more place machine.file bytes count front) given_draft;
     }
 
-pub stops_missing : (holding : Option Holding) (place : ℕ) (lab : LabData) (machine : MachineFile)
-    → (entry_at lab.entries place).draft ≡ FromFile machine → IsMissing holding machine.file → StepStops holding place lab Missing
-stops_missing holding place lab machine is missing = record {
-  bytes = [];
-  read = λ given more count. rw (is, machine_lacks holding (given ++ [] ∷ more) place machine.file missing) refl;
-}
+pub stops_missing : (holding : Option Holding) (place : ℕ) (lab : LabData) (machine : MachineFile) (name : List ℕ)
+    → (entry_at lab.entries place).draft ≡ FromFile machine → name ≡ machine.file → IsMissing holding name → StepStops holding place lab Missing
+stops_missing holding place lab machine name is named lacks =
+    let missing : IsMissing holding machine.file = rw named at lacks in
+    record {
+      bytes = [];
+      read = λ given more count. rw (is, machine_lacks holding (given ++ [] ∷ more) place machine.file missing) refl;
+    }
 
 -- as far as the entries are read
 pub record SoFar (holding : Option Holding) (old now : LabData) (k : ℕ) : Type 0 where
@@ -228,4 +235,76 @@ all_read holding old now k all far = record {
   given = far.given ++ [];
   is = far.same [] ∙ rw (take_all k now.entries all, drop_all k now.entries all) refl;
   rest = far.rest;
+}
+
+pub rose_earlier : (before between now : ℕ) → before ≤ between → Rose between now → Rose before now
+rose_earlier before between now later rose = omega arith
+
+-- where a whole goes through, its first part does
+goes_on : {A B : Type 0} (r : Result A Stop) (next : A → Result B Stop) (now : B) → (r >>= next) ≡ Ok now → (x : A) × (r ≡ Ok x) × (next x ≡ Ok now)
+goes_on (Ok x) next now is = (x, refl, is)
+goes_on (Err stop) next now is = absurd (cc)
+
+not_stopped : {A : Type 0} (r : Result A Refusal) (x : A) → or_stop r ≡ Ok x → r ≡ Ok x
+not_stopped (Ok y) x is = let same : y ≡ x = cc in ap (λ z. Ok z) same
+not_stopped (Err refusal) x is = absurd (cc)
+
+-- drafts that are read are ready
+of_rows : (number : ℕ) (machine : MachineFile) (bytes : List ℕ) (made : Draft) (sheet : Result SheetData Refusal) → csv_sheet number machine bytes ≡ sheet
+    → draft_with number (FromFile machine) bytes ≡ Ok made → IsReadyDraft made
+of_rows number machine bytes made (Ok sheet) is drafted =
+    let there : Ok (Ready sheet) ≡ Ok made = rw is at drafted in
+    let same : Ready sheet ≡ made = cc in
+    rw (sym same) tt
+of_rows number machine bytes made (Err refusal) is drafted =
+    let none : Err refusal ≡ Ok made = rw is at drafted in
+    absurd (cc)
+
+draft_ready : (source : ℕ → List ℕ → Option (List ℕ)) (place : ℕ) (draft made : Draft) → draft_read source place draft ≡ Ok made → IsReadyDraft made
+draft_ready source place (Ready sheet) made read = let same : Ready sheet ≡ made = cc in rw (sym same) tt
+draft_ready source place (FromFile machine) made read =
+    let found = goes_on (or_missing (source place machine.file)) (λ bytes. or_stop (draft_with (place + 1) (FromFile machine) bytes)) made read in
+    of_rows (place + 1) machine found.0 made (csv_sheet (place + 1) machine found.0) refl (not_stopped (draft_with (place + 1) (FromFile machine) found.0) made found.2)
+
+entries_ready : (source : ℕ → List ℕ → Option (List ℕ)) (done entries now : List Entry) → All IsReadyEntry done → entries_read source done entries ≡ Ok now → All IsReadyEntry now
+entries_ready source done [] now ready read = let same : done ≡ now = cc in rw (sym same) ready
+entries_ready source done (entry ∷ rest) now ready read =
+    let step = goes_on (draft_read source (length done) entry.draft) (λ d. entries_read source (done ++ (record entry { draft = d }) ∷ []) rest) now read in
+    entries_ready source (done ++ (record entry { draft = step.0 }) ∷ []) rest now
+    (All-push IsReadyEntry done (record entry { draft = step.0 }) ready (draft_ready source (length done) entry.draft step.0 step.1)) step.2
+
+none_ready : All IsReadyEntry []
+none_ready k d inside = absurd (omega arith)
+
+pub all_ready : (holding : Option Holding) (old new : LabData) → AttachesAll holding old new → All IsReadyEntry new.entries
+all_ready holding old new all = entries_ready (machine_source holding all.given) [] old.entries new.entries none_ready all.is
+
+-- the whole
+pub loads_lab : (command : Command) (notes : List PlugNote) (name : List ℕ) (holding : Option Holding) (first lab : LabData) (limits : Result (Unit {0}) Refusal)
+    → ReadsLab notes name holding (Ok first) → AttachesAll holding first lab → limits_of notes command lab ≡ limits
+    → Loads command notes name holding (or_stop limits >>= λ kept. Ok lab)
+loads_lab command notes name holding first lab limits reads attaches is = record {
+  lab_given = reads.given;
+  machines_given = attaches.given;
+  is = ap (λ r. r >>= λ (l : LabData). entries_read (machine_source holding attaches.given) [] l.entries >>= λ es. or_stop (limits_of notes command (record l { entries = es })) >>= λ kept. Ok (record l { entries = es })) reads.is
+      ∙ ap (λ r. r >>= λ es. or_stop (limits_of notes command (record first { entries = es })) >>= λ kept. Ok (record first { entries = es })) attaches.is
+      ∙ ap (λ (l : LabData). or_stop (limits_of notes command l) >>= λ kept. Ok l) (sym attaches.rest)
+      ∙ ap (λ r. or_stop r >>= λ kept. Ok lab) is;
+}
+
+pub stops_attaching : (command : Command) (notes : List PlugNote) (name : List ℕ) (holding : Option Holding) (first : LabData) (stop : Stop)
+    → ReadsLab notes name holding (Ok first) → AttachStops holding first stop → Loads command notes name holding (Err stop)
+stops_attaching command notes name holding first stop reads stops = record {
+  lab_given = reads.given;
+  machines_given = stops.given;
+  is = ap (λ r. r >>= λ (l : LabData). entries_read (machine_source holding stops.given) [] l.entries >>= λ es. or_stop (limits_of notes command (record l { entries = es })) >>= λ kept. Ok (record l { entries = es })) reads.is
+      ∙ ap (λ r. r >>= λ es. or_stop (limits_of notes command (record first { entries = es })) >>= λ kept. Ok (record first { entries = es })) stops.is;
+}
+
+pub stops_reading : (command : Command) (notes : List PlugNote) (name : List ℕ) (holding : Option Holding) (stop : Stop)
+    → ReadsLab notes name holding (Err stop) → Loads command notes name holding (Err stop)
+stops_reading command notes name holding stop reads = record {
+  lab_given = reads.given;
+  machines_given = [];
+  is = ap (λ r. r >>= λ (l : LabData). entries_read (machine_source holding []) [] l.entries >>= λ es. or_stop (limits_of notes command (record l { entries = es })) >>= λ kept. Ok (record l { entries = es })) reads.is;
 }
