@@ -1,0 +1,4 @@
+pub mod Following
+pub mod Numbers
+pub mod Places
+pub mod Tables
