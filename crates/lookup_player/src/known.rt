@@ -137,7 +137,7 @@ pub fn known_after(sheet: &Sheet, known: Known, mine: Move, theirs: Move) -> Kno
     }
 }
 
-/// The row that stands for what a table knows, from the number of rows of fewer turns.
+/// The row that stands for what a table knows, from how many rows stand for fewer turns.
 pub fn row_of_known(sheet: &Sheet, known: Known, fewer: u32) -> u32
     requires table { sheet.now.kind ≡ Kind.Lookup }
     requires seen { IsSeen sheet.now (as_seen known) }

@@ -1,4 +1,5 @@
-//! The rows of a lookup table's automaton.
+//! The rows of a lookup table's automaton, in order of the turns that they stand for. `fewer` is how
+//! many rows stand for fewer turns, and so the first row of the turns.
 ghost use Rattle.std.specs.Prelude.{◌≡◌, ◌<◌, ◌≤◌, ◌+◌, ◌^◌, length, map, min, slice_index, take};
 ghost use Rattle.history_model.specs.Automaton.{IsAutomaton, plain_row};
 ghost use Rattle.player_core.specs.Sheet.{depth};
@@ -13,7 +14,7 @@ use player_core::{Kind, Sheet};
 /// Room for the rows of every automaton. A table has at most 457.
 pub const ROOM: usize = 512;
 
-// The number of rows of up to so many turns, from that of fewer turns.
+// How many rows stand for up to so many turns.
 fn rows_up_to(sheet: &Sheet, turns: u32, fewer: u32) -> u32
     requires table { sheet.now.kind ≡ Kind.Lookup }
     requires shallow { turns ≤ depth sheet.now }
@@ -25,7 +26,7 @@ fn rows_up_to(sheet: &Sheet, turns: u32, fewer: u32) -> u32
     fewer + owns(sheet, turns) * others(sheet, turns) * firsts(sheet, turns)
 }
 
-// The number of rows of fewer turns than one more turn makes, which is none at the depth.
+// The first row of the turns after one more play: at the depth the turns stay the same.
 fn fewer_next(sheet: &Sheet, turns: u32, fewer: u32, rows: u32) -> u32
     requires table { sheet.now.kind ≡ Kind.Lookup }
     requires shallow { turns ≤ depth sheet.now }
@@ -36,6 +37,7 @@ fn fewer_next(sheet: &Sheet, turns: u32, fewer: u32, rows: u32) -> u32
     if turns < depth(sheet) { rows } else { fewer }
 }
 
+// The opening of a turn.
 fn opening(sheet: &Sheet, turns: u32) -> u32
     requires inside { turns < length sheet.now.opening }
     ensures { result ≡ slice_index sheet.now.opening turns }
@@ -43,6 +45,7 @@ fn opening(sheet: &Sheet, turns: u32) -> u32
     sheet.opening[turns as usize]
 }
 
+// The entry of a place.
 fn entry(sheet: &Sheet, place: u32) -> u32
     requires inside { place < length sheet.now.table }
     ensures { result ≡ slice_index sheet.now.table place }
@@ -64,7 +67,7 @@ fn weight_at(sheet: &Sheet, turns: u32, place: u32) -> u32
     }
 }
 
-// The row after a play, which comes behind the rows of fewer turns.
+// The row after a play, from the first row of the turns after it.
 fn next_row(sheet: &Sheet, known: Known, mine: Move, theirs: Move, fewer: u32) -> u32
     requires table { sheet.now.kind ≡ Kind.Lookup }
     requires seen { IsSeen sheet.now (as_seen known) }
@@ -74,7 +77,7 @@ fn next_row(sheet: &Sheet, known: Known, mine: Move, theirs: Move, fewer: u32) -
     row_of_known(sheet, known_after(sheet, known, mine, theirs), fewer)
 }
 
-// The row at a place among the rows of so many turns. The next turns' rows come behind `fewer_next`.
+// The row at a place among the rows of so many turns, from the first row of the turns after them.
 fn row_of(sheet: &Sheet, turns: u32, place: u32, fewer_next: u32) -> GridRow
     requires table { sheet.now.kind ≡ Kind.Lookup }
     requires shallow { turns ≤ depth sheet.now }
@@ -94,7 +97,7 @@ fn row_of(sheet: &Sheet, turns: u32, place: u32, fewer_next: u32) -> GridRow
     }
 }
 
-// Writes the rows of so many turns behind those of fewer turns, and tells how many rows there are then.
+// Writes the rows of so many turns behind those of fewer turns, and tells how many there are then.
 fn write_turns(table: &mut Vec<GridRow>, sheet: &Sheet, turns: u32, fewer: u32) -> u32
     requires table { sheet.now.kind ≡ Kind.Lookup }
     requires room { length table.old.items ≡ ROOM }
