@@ -2,11 +2,12 @@
 ghost use Rattle.std.specs.Prelude.{◌≡◌, ◌<◌, ◌≤◌, ◌*◌, IfOk, length, map, take};
 ghost use Rattle.history_model.specs.Automaton.{IsAutomaton, plain_row, row_at};
 ghost use Rattle.player_core.specs.AutomatonOf.{entered, machine_automaton, machine_place, machine_row};
+ghost use Rattle.player_core.specs.Holder.{fresh};
 ghost use Rattle.player_core.specs.Sheet.{IsMachine, states};
 ghost use Rattle.player_core.specs.State.{IsState};
-ghost use Rattle.machine_player.specs.Machine.{fresh};
 
 use history_model::{GridRow, Move, Name, NoMemory};
+use player_core::laws::rows_are_held;
 use player_core::{Kind, Player, Sheet, no_name};
 use std::alloc::Global;
 use std::marker::Model;
@@ -29,14 +30,15 @@ pub struct MachinePlayer {
 
 impl Model for MachinePlayer {
     ghost use Rattle.std.specs.Prelude.{length};
+    ghost use Rattle.player_core.specs.declared.kind.Kind.TheVariants.{Machine};
+    ghost use Rattle.player_core.specs.Holder.{holder, IsHolder};
     ghost use Rattle.player_core.specs.State.{PlayerState};
-    ghost use Rattle.machine_player.specs.Machine.{machine_state, IsMachinePlayer};
 
     ghost Value = { PlayerState };
 
-    ghost view = { λ p. machine_state p.start p.table.items p.used p.mark p.turns p.returns };
+    ghost view = { λ p. holder Machine 1 p.start p.table.items p.used p.mark p.turns p.returns };
 
-    ghost invariant = { λ p. IsMachinePlayer (machine_state p.start p.table.items p.used p.mark p.turns p.returns) (length p.table.items) p.used };
+    ghost invariant = { λ p. IsHolder (holder Machine 1 p.start p.table.items p.used p.mark p.turns p.returns) (length p.table.items) p.used };
 }
 
 // The row of a state that is about to play, 1 for C and 0 for D.
@@ -90,6 +92,7 @@ fn write_rows(table: &mut Vec<GridRow>, sheet: &Sheet) -> u32
     ensures rows { map plain_row (take result table.new.items) ≡ (machine_automaton sheet.now).rows }
     ensures valid { IsAutomaton (machine_automaton sheet.now) }
 {
+    rows_are_held();
     let rows = row_count(sheet);
     for row in 0..rows as usize {
         table[row] = row_of(sheet, row);
@@ -101,8 +104,9 @@ impl MachinePlayer {
     /// A player that has taken no sheet yet, and always plays C. It was never advanced or resumed.
     /// The error is want of room for 512 rows.
     pub fn new(alloc: Global) -> Result<MachinePlayer, NoMemory>
-        ensures { IfOk result (λ player. player ≡ fresh) }
+        ensures { IfOk result (λ player. player ≡ fresh Kind.Machine) }
     {
+        rows_are_held();
         let cooperate = GridRow {
             weight: 1,
             next: [0; 4],

@@ -2,10 +2,11 @@
 ghost use Rattle.std.specs.Prelude.{◌≡◌, ◌<◌, IfOk, length, map, take};
 ghost use Rattle.history_model.specs.Automaton.{IsAutomaton, plain_row, row_at};
 ghost use Rattle.player_core.specs.AutomatonOf.{vector_automaton};
+ghost use Rattle.player_core.specs.Holder.{fresh};
 ghost use Rattle.player_core.specs.State.{IsState};
-ghost use Rattle.memory_player.specs.Memory.{fresh};
 
 use history_model::{GridRow, Move, Name, NoMemory};
+use player_core::laws::rows_are_held;
 use player_core::{Kind, Player, Sheet, no_name};
 use std::alloc::Global;
 use std::marker::Model;
@@ -31,14 +32,15 @@ pub struct MemoryPlayer {
 
 impl Model for MemoryPlayer {
     ghost use Rattle.std.specs.Prelude.{length};
+    ghost use Rattle.player_core.specs.declared.kind.Kind.TheVariants.{MemoryOne};
+    ghost use Rattle.player_core.specs.Holder.{holder, IsHolder};
     ghost use Rattle.player_core.specs.State.{PlayerState};
-    ghost use Rattle.memory_player.specs.Memory.{memory_state, IsMemoryPlayer};
 
     ghost Value = { PlayerState };
 
-    ghost view = { λ p. memory_state p.den p.table.items p.used p.mark p.turns p.returns };
+    ghost view = { λ p. holder MemoryOne p.den 0 p.table.items p.used p.mark p.turns p.returns };
 
-    ghost invariant = { λ p. IsMemoryPlayer (memory_state p.den p.table.items p.used p.mark p.turns p.returns) (length p.table.items) p.used };
+    ghost invariant = { λ p. IsHolder (holder MemoryOne p.den 0 p.table.items p.used p.mark p.turns p.returns) (length p.table.items) p.used };
 }
 
 // The row of a vector's automaton at a place.
@@ -66,6 +68,7 @@ fn write_rows(table: &mut Vec<GridRow>, sheet: &Sheet)
     ensures rows { map plain_row (take VECTOR_ROWS table.new.items) ≡ (vector_automaton sheet.now).rows }
     ensures valid { IsAutomaton (vector_automaton sheet.now) }
 {
+    rows_are_held();
     sheet.shape();
     for place in 0..VECTOR_ROWS as usize {
         table[place] = row_of(sheet, place);
@@ -76,8 +79,9 @@ impl MemoryPlayer {
     /// A player that has taken no sheet yet, and always plays C. It was never advanced or resumed.
     /// The error is want of room for 512 rows.
     pub fn new(alloc: Global) -> Result<MemoryPlayer, NoMemory>
-        ensures { IfOk result (λ player. player ≡ fresh) }
+        ensures { IfOk result (λ player. player ≡ fresh Kind.MemoryOne) }
     {
+        rows_are_held();
         let cooperate = GridRow {
             weight: 1,
             next: [0; 4],

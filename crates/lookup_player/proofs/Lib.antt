@@ -1,0 +1,5 @@
+pub mod Following
+pub mod Numbers
+pub mod Places
+pub mod TableSure
+pub mod Tables
