@@ -3,10 +3,9 @@ use Rattle.std.proofs.Common.{◌≡◌, ℕ, ◌-◌, ◌*◌, ◌%◌, ◌||�
 use Rattle.std.proofs.lemmas.Bool.Decides.{nat_tests}
 use Rattle.std.specs.List.{list_all, range_with_len}
 use Rattle.history_model.specs.Automaton.{Row}
-use Rattle.player_core.specs.Sheet.{SheetData, IsTable, states}
+use Rattle.player_core.specs.Sheet.{SheetData, states}
 use Rattle.player_core.specs.AutomatonOf.{vector_automaton, vector_row, machine_automaton, machine_row}
 use Rattle.player_core.specs.Bench.{is_sure}
-use Rattle.player_core.specs.Table.{table_automaton}
 use Rattle.lab_file.specs.Sure.{is_sure_weight}
 
 rows_of_vector : (den : ℕ) (weights : List ℕ) → list_all (λ (row : Row). row.weight == 0 || row.weight == den) (map vector_row weights) ≡ list_all (is_sure_weight den) weights
@@ -25,4 +24,3 @@ rows_of_machine sheet (k ∷ ks) = rw (one_or_none k) (rows_of_machine sheet ks)
 
 pub machines_are_sure : (sheet : SheetData) → is_sure (machine_automaton sheet) ≡ true
 machines_are_sure sheet = rows_of_machine sheet (range_with_len 0 (2 * states sheet))
-

@@ -23,7 +23,7 @@ plug_is_sure (note ∷ notes) name = if bytes_eq note.name name then note.sure e
 abbrev pub sure_by : Kind → List PlugNote → SheetData → Bool
 sure_by MemoryOne notes sheet = is_sure (vector_automaton sheet)
 sure_by Machine notes sheet = is_sure (machine_automaton sheet)
-sure_by Lookup notes sheet = false
+sure_by Lookup notes sheet = is_sure (table_automaton sheet)
 sure_by Plug notes sheet = plug_is_sure notes sheet.plug
 
 -- whether a sheet's automaton is sure

@@ -19,7 +19,7 @@ fn sheet_is_sure(notes: &Vec<PlugNote>, sheet: &Sheet) -> bool
     match sheet.kind {
         Kind::MemoryOne => vector_is_sure(sheet),
         Kind::Machine => true,
-        Kind::Lookup => false,
+        Kind::Lookup => table_is_sure(sheet),
         Kind::Plug => plug_is_sure(notes, sheet.plug),
     }
 }
@@ -30,6 +30,15 @@ fn vector_is_sure(sheet: &Sheet) -> bool
     ensures { result ≡ is_sure (vector_automaton sheet.now) }
 {
     is_sure_weight(sheet.opening[0], sheet.den) && are_sure_weights(&sheet.table, sheet.den)
+}
+
+#[tactic(auto, using(crate::proofs::TableSure::table_sureness))]
+fn table_is_sure(sheet: &Sheet) -> bool
+    requires { sheet.now.kind ≡ Kind.Lookup }
+    ensures { result ≡ is_sure (table_automaton sheet.now) }
+{
+    sheet.shape();
+    are_sure_weights(&sheet.opening, sheet.den) && are_sure_weights(&sheet.table, sheet.den)
 }
 
 fn is_sure_weight(weight: u32, den: u32) -> bool

@@ -1,5 +1,4 @@
 pub mod Following
 pub mod Numbers
 pub mod Places
-pub mod TableSure
 pub mod Tables

@@ -1,4 +1,3 @@
-pub mod CsvRows
 pub mod FileName
 pub mod Rows
 pub mod RowsLaw

@@ -2,7 +2,6 @@
 //! of a plug.
 #![tactic(auto)]
 
-mod csv_rows;
 mod draft;
 mod entry;
 mod file_name;
@@ -13,7 +12,6 @@ mod states;
 mod toml_rows;
 mod transition;
 
-pub use csv_rows::read_machine_csv;
 pub use draft::{Draft, MachineFile};
 pub use entry::read_sheet;
 pub use file_name::FileName;

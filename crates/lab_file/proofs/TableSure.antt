@@ -8,10 +8,7 @@ use Rattle.history_model.specs.Automaton.{Row, no_row}
 use Rattle.player_core.specs.Bench.{is_sure}
 use Rattle.player_core.specs.Sheet.{SheetData, IsTable, depth}
 use Rattle.player_core.specs.Table.{width, base, table_rows, turns_up_to, turns_at, table_weight, table_row, table_automaton}
-
--- this one is lab_file's
-abbrev pub is_sure_weight : ℕ → ℕ → Bool
-is_sure_weight den weight = weight == 0 || weight == den
+use Rattle.lab_file.specs.Sure.{is_sure_weight}
 
 base_up : (sheet : SheetData) (low high : ℕ) → low ≤ high → base sheet low ≤ base sheet high
 base_up sheet low zero le = let none : low ≡ 0 = omega arith in rw none (omega arith)
