@@ -1,4 +1,1 @@
-pub mod Exits
-pub mod Follows
-pub mod Held
 pub mod TomlRows

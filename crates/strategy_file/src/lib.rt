@@ -5,12 +5,8 @@
 mod draft;
 mod entry;
 mod file_name;
-pub mod laws;
-mod machine;
 mod sheets;
-mod states;
 mod toml_rows;
-mod transition;
 
 pub use draft::{Draft, MachineFile};
 pub use entry::read_sheet;

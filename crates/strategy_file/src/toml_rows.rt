@@ -2,14 +2,13 @@
 ghost use Rattle.std.specs.Prelude.{◌≡◌};
 ghost use Rattle.toml.specs.View.{view, array_view};
 ghost use Rattle.lab_keys.specs.Refusing.{Gives};
-ghost use Rattle.strategy_file.specs.Rows.{machine_sheet};
+ghost use Rattle.machine_rows.specs.Rows.{machine_sheet};
 ghost use Rattle.strategy_file.specs.TomlRows.{move_of, move_in, row_of, row_in, rows_in};
 
-use crate::machine::MachineRows;
-use crate::transition::Transition;
 use history_model::Move;
 use lab_keys::number_within;
 use lab_ports::{FileError, Refusal};
+use machine_rows::{MachineRows, Transition};
 use player_core::Sheet;
 use std::alloc::Global;
 use toml::Value;

@@ -1,6 +1,6 @@
 use Rattle.std.proofs.Common.{◌≡◌, ℕ, ◌*◌, ◌<◌, ◌++◌, drop, length, slice_index}
-use Rattle.strategy_file.specs.Rows.{numbers_of}
-use Rattle.strategy_file.proofs.states.States.next_numbers.Given as goal
+use Rattle.machine_rows.specs.Rows.{numbers_of}
+use Rattle.machine_rows.proofs.states.States.next_numbers.Given as goal
 
 abbrev pub invariant-loop-exits : goal.invariant-loop-exits
 invariant-loop-exits l = record {

@@ -1,17 +1,21 @@
 //! The rows of a finite machine.
 ghost use Rattle.std.specs.Prelude.{◌≡◌, ◌≤◌};
-ghost use Rattle.strategy_file.specs.Rows.{has_both, exit_weight};
-ghost use Rattle.strategy_file.specs.Sheets.{weight_of};
-ghost use Rattle.strategy_file.specs.RowsRead.{exit_on, with_exit, no_exits};
+ghost use Rattle.machine_rows.specs.Rows.{has_both, exit_weight};
+ghost use Rattle.machine_rows.specs.RowsRead.{exit_on, with_exit, no_exits};
 
+use crate::sheet::weight_of;
 use history_model::Move;
 
 /// One row of a finite machine: in `state`, having heard `heard`, it goes to `next` and plays `play`.
 #[derive(Clone, Copy, Debug, PartialEq, Eq)]
 pub struct Transition {
+    /// The state that is left, as the file numbers it.
     pub state: u32,
+    /// The other's last play.
     pub heard: Move,
+    /// The state that follows, as the file numbers it.
     pub next: u32,
+    /// What is played next.
     pub play: Move,
 }
 
@@ -63,17 +67,6 @@ pub fn has_both(exits: &Exits) -> bool
     ensures { result ≡ has_both exits.now }
 {
     exits.on_c.is_some() && exits.on_d.is_some()
-}
-
-/// 1 for C and 0 for D.
-pub fn weight_of(play: Move) -> u32
-    ensures value { result ≡ weight_of play }
-    ensures within { result ≤ 1 }
-{
-    match play {
-        Move::C => 1,
-        Move::D => 0,
-    }
 }
 
 /// The weight of what is played on an exit; 0 where there is none.

@@ -13,14 +13,14 @@ use Rattle.history_model.specs.declared.moves.Move.TheVariants.{C, D}
 use Rattle.player_core.specs.Sheet.{SheetData, digit}
 use Rattle.lab_ports.specs.declared.refusal.Refusal.{Refusal}
 use Rattle.lab_keys.specs.Refusing.{◌>>=◌}
-use Rattle.strategy_file.specs.declared.transition.Transition.{Transition}
-use Rattle.strategy_file.specs.declared.transition.Exits.{Exits}
-use Rattle.strategy_file.specs.Rows.{leaves, same_move, with_states, states_of, exits_of, with_row, with_rows, number_of, weights_of, numbers_of, exit_weight, exit_number, finished, all_exits}
-use Rattle.strategy_file.specs.RowsRead.{exit_on}
-use Rattle.strategy_file.specs.Sheets.{weight_of, machine_with}
-use Rattle.strategy_file.specs.RowsLaw.{place_of, SheetFollowsRows}
-use Rattle.strategy_file.proofs.Exits.{found_any, among_more}
-use Rattle.strategy_file.proofs.Held.{none_from}
+use Rattle.machine_rows.specs.declared.transition.Transition.{Transition}
+use Rattle.machine_rows.specs.declared.transition.Exits.{Exits}
+use Rattle.machine_rows.specs.Rows.{leaves, same_move, with_states, states_of, exits_of, with_row, with_rows, number_of, weights_of, numbers_of, exit_weight, exit_number, finished, all_exits}
+use Rattle.machine_rows.specs.RowsRead.{exit_on}
+use Rattle.machine_rows.specs.MachineSheet.{weight_of, machine_with}
+use Rattle.machine_rows.specs.RowsLaw.{place_of, SheetFollowsRows}
+use Rattle.machine_rows.proofs.Exits.{found_any, among_more}
+use Rattle.machine_rows.proofs.Held.{none_from}
 
 -- a member stays one, and a new state is one
 member_more : (s k : ℕ) (ks : List ℕ) → list_any (eqb s) ks ≡ true → list_any (eqb s) (insert_key eqb ks k) ≡ true

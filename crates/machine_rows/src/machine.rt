@@ -1,9 +1,9 @@
 //! The rows of a machine, read one by one, and the sheet that they make.
 ghost use Rattle.std.specs.Prelude.{◌≡◌, ◌+◌, ◌<◌, [], length, Some, IfOk};
 ghost use Rattle.lab_keys.specs.Refusing.{Gives};
-ghost use Rattle.strategy_file.specs.Rows.{with_row, finished};
+ghost use Rattle.machine_rows.specs.Rows.{with_row, finished};
 
-use crate::sheets::machine_with;
+use crate::sheet::machine_with;
 use crate::states::States;
 use crate::transition::{Transition, exit_on};
 use history_model::Move;
@@ -26,7 +26,7 @@ pub struct MachineRows {
 }
 
 impl Model for MachineRows {
-    ghost use Rattle.strategy_file.specs.RowsRead.{RowsRead, IsHeld};
+    ghost use Rattle.machine_rows.specs.RowsRead.{RowsRead, IsHeld};
 
     ghost Value = { RowsRead };
 

@@ -7,13 +7,13 @@ use Rattle.std.proofs.lemmas.List.Sums.{fold-append, sum_by-set}
 use Rattle.std.proofs.lemmas.Option.{slice_get_within, get_or_from_slice_get}
 use Rattle.std.specs.List.{list_any, IsDistinct}
 use Rattle.indexmap.specs.IndexSet.{insert_key}
-use Rattle.strategy_file.specs.declared.transition.Transition.{Transition}
-use Rattle.strategy_file.specs.declared.transition.Exits.{Exits}
+use Rattle.machine_rows.specs.declared.transition.Transition.{Transition}
+use Rattle.machine_rows.specs.declared.transition.Exits.{Exits}
 use Rattle.lab_ports.specs.declared.refusal.Refusal.TheVariants.{BadRows, TooManyRows}
 use Rattle.history_model.specs.declared.moves.Move.{Move}
-use Rattle.strategy_file.specs.Rows.{exits_of, leaves, with_row, with_states, states_of}
-use Rattle.strategy_file.specs.RowsRead.{no_exits, exit_on, with_exit, exit_count, AreExits, IsHeld}
-use Rattle.strategy_file.proofs.Exits.{set_map, exits_other, exits_own, count_set, counts_at_most, exits_at_state, doubled_is, number_kept, more_states}
+use Rattle.machine_rows.specs.Rows.{exits_of, leaves, with_row, with_states, states_of}
+use Rattle.machine_rows.specs.RowsRead.{no_exits, exit_on, with_exit, exit_count, AreExits, IsHeld}
+use Rattle.machine_rows.proofs.Exits.{set_map, exits_other, exits_own, count_set, counts_at_most, exits_at_state, doubled_is, number_kept, more_states}
 
 -- at most 256 states have at most 512 rows
 pub rows_few : (start : ℕ) (rows : List Transition) (ks : List ℕ) (es : List Exits) → IsHeld start rows ks es → length rows ≤ 512

@@ -1,11 +1,11 @@
 use Rattle.std.proofs.Common.{◌≡◌, ◌+◌, true, false, slice_get, Some, Ok, Err, subst, length, arith}
 use Rattle.std.specs.List.{list_any}
 use Rattle.lab_ports.specs.declared.refusal.Refusal.TheVariants.{BadRows, TooManyRows}
-use Rattle.strategy_file.specs.Rows.{leaves, with_row}
-use Rattle.strategy_file.specs.RowsRead.{RowsRead}
-use Rattle.strategy_file.proofs.Exits.{number_kept}
-use Rattle.strategy_file.proofs.Held.{doubled_at, inside_exits, two_states, refuses_doubled, refuses_many, takes_row, held_more}
-use Rattle.strategy_file.proofs.machine.MachineRows.with.Goals as goal
+use Rattle.machine_rows.specs.Rows.{leaves, with_row}
+use Rattle.machine_rows.specs.RowsRead.{RowsRead}
+use Rattle.machine_rows.proofs.Exits.{number_kept}
+use Rattle.machine_rows.proofs.Held.{doubled_at, inside_exits, two_states, refuses_doubled, refuses_many, takes_row, held_more}
+use Rattle.machine_rows.proofs.machine.MachineRows.with.Goals as goal
 
 pub returns-then-is_some-clause-rows : goal.returns-then-is_some-clause-rows
 returns-then-is_some-clause-rows c =

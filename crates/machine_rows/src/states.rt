@@ -2,10 +2,10 @@
 ghost use Rattle.std.specs.Prelude.{◌≡◌, ℕ, ◌*◌, ◌≤◌, ◌<◌, nat_eq, Some, List, slice_index, slice_get, slice_set, slice_index_or, length, IfOk, OnOk};
 ghost use Rattle.std.specs.List.{list_all};
 ghost use Rattle.indexmap.specs.IndexSet.{insert_key, IsUnique};
-ghost use Rattle.strategy_file.specs.declared.transition.Transition.{Transition};
-ghost use Rattle.strategy_file.specs.Rows.{number_of, has_both, weights_of, exit_number, numbers_of};
-ghost use Rattle.strategy_file.specs.declared.transition.Transition.{Transition};
-ghost use Rattle.strategy_file.specs.RowsRead.{with_room, with_exit, no_exits, AreExits};
+ghost use Rattle.machine_rows.specs.declared.transition.Transition.{Transition};
+ghost use Rattle.machine_rows.specs.Rows.{number_of, has_both, weights_of, exit_number, numbers_of};
+ghost use Rattle.machine_rows.specs.declared.transition.Transition.{Transition};
+ghost use Rattle.machine_rows.specs.RowsRead.{with_room, with_exit, no_exits, AreExits};
 
 use crate::transition::{Exits, Transition, exit_weight, has_both, no_exits, with_exit};
 use indexmap::IndexSet;

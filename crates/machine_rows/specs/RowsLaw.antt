@@ -2,9 +2,9 @@
 use Rattle.std.specs.Prelude.{◌≡◌, ℕ, ◌+◌, ◌*◌, List, map, slice_get, slice_index, Some, Ok}
 use Rattle.history_model.specs.declared.moves.Move.{Move}
 use Rattle.player_core.specs.Sheet.{SheetData, digit}
-use Rattle.strategy_file.specs.declared.transition.Transition.{Transition}
-use Rattle.strategy_file.specs.Rows.{states_of, number_of, machine_sheet}
-use Rattle.strategy_file.specs.Sheets.{weight_of}
+use Rattle.machine_rows.specs.declared.transition.Transition.{Transition}
+use Rattle.machine_rows.specs.Rows.{states_of, number_of, machine_sheet}
+use Rattle.machine_rows.specs.MachineSheet.{weight_of}
 
 -- where the lists of a sheet have what follows on the state of a row after the heard move
 abbrev pub place_of : List ℕ → Transition → ℕ

@@ -3,9 +3,9 @@ use Rattle.std.specs.Prelude.{◌≡◌, ℕ, ◌+◌, ◌≤◌, false, nat_eq,
 use Rattle.std.specs.List.{list_any}
 use Rattle.history_model.specs.declared.moves.Move.{Move}
 use Rattle.history_model.specs.declared.moves.Move.TheVariants.{C, D}
-use Rattle.strategy_file.specs.declared.transition.Transition.{Transition}
-use Rattle.strategy_file.specs.declared.transition.Exits.{Exits}
-use Rattle.strategy_file.specs.Rows.{states_of, exits_of}
+use Rattle.machine_rows.specs.declared.transition.Transition.{Transition}
+use Rattle.machine_rows.specs.declared.transition.Exits.{Exits}
+use Rattle.machine_rows.specs.Rows.{states_of, exits_of}
 
 -- right rows, in order, and the state in which the machine starts
 pub record RowsRead : Type 0 where

@@ -11,10 +11,10 @@ use Rattle.std.specs.List.{list_any, IsDistinct, AllByRecursion}
 use Rattle.indexmap.specs.IndexSet.{insert_key}
 use Rattle.history_model.specs.declared.moves.Move.{Move}
 use Rattle.history_model.specs.declared.moves.Move.TheVariants.{C, D}
-use Rattle.strategy_file.specs.declared.transition.Transition.{Transition}
-use Rattle.strategy_file.specs.declared.transition.Exits.{Exits}
-use Rattle.strategy_file.specs.Rows.{leaves, exits_of}
-use Rattle.strategy_file.specs.RowsRead.{no_exits, exit_on, exit_set, with_exit, with_room, exit_count, one_if, LeaveThese, AreExits}
+use Rattle.machine_rows.specs.declared.transition.Transition.{Transition}
+use Rattle.machine_rows.specs.declared.transition.Exits.{Exits}
+use Rattle.machine_rows.specs.Rows.{leaves, exits_of}
+use Rattle.machine_rows.specs.RowsRead.{no_exits, exit_on, exit_set, with_exit, with_room, exit_count, one_if, LeaveThese, AreExits}
 
 -- a state is among the states after one more exactly if it was, or is that one
 pub among_more : (s k : ℕ) (ks : List ℕ) → list_any (eqb s) (insert_key eqb ks k) ≡ (list_any (eqb s) ks || eqb s k)

@@ -8,9 +8,9 @@ use Rattle.player_core.specs.Sheet.{SheetData}
 use Rattle.lab_ports.specs.declared.refusal.Refusal.{Refusal}
 use Rattle.lab_ports.specs.declared.refusal.Refusal.TheVariants.{BadRows, TooManyRows}
 use Rattle.lab_keys.specs.Refusing.{◌>>=◌}
-use Rattle.strategy_file.specs.declared.transition.Transition.{Transition}
-use Rattle.strategy_file.specs.declared.transition.Exits.{Exits}
-use Rattle.strategy_file.specs.Sheets.{weight_of, machine_with}
+use Rattle.machine_rows.specs.declared.transition.Transition.{Transition}
+use Rattle.machine_rows.specs.declared.transition.Exits.{Exits}
+use Rattle.machine_rows.specs.MachineSheet.{weight_of, machine_with}
 
 abbrev pub same_move : Move → Move → Bool
 same_move C C = true
