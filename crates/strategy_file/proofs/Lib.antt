@@ -1,1 +1,3 @@
+pub mod CsvRead
+pub mod CsvRows
 pub mod TomlRows

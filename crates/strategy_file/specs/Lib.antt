@@ -1,3 +1,5 @@
+pub mod CsvRead
+pub mod CsvRows
 pub mod FileName
 pub mod SheetOf
 pub mod Sheets

@@ -18,12 +18,12 @@ use toml::value::Array;
 pub const LAST_STATE: u32 = 65_535;
 
 /// The move that a text names: `C` or `D`.
-pub fn move_of(text: &str) -> Option<Move>
+pub fn move_of(text: &[u8]) -> Option<Move>
     ensures { result ≡ move_of text.now }
 {
-    if text == "C" {
+    if text == b"C".as_slice() {
         Some(Move::C)
-    } else if text == "D" {
+    } else if text == b"D".as_slice() {
         Some(Move::D)
     } else {
         None
@@ -34,7 +34,7 @@ fn move_in(value: &Value) -> Option<Move>
     ensures { result ≡ move_in (view value.now) }
 {
     match value.as_str() {
-        Some(text) => move_of(text),
+        Some(text) => move_of(text.as_bytes()),
         None => None,
     }
 }
