@@ -1,4 +1,3 @@
-pub mod Exits
-pub mod Follows
-pub mod Held
+pub mod CsvRead
+pub mod CsvRows
 pub mod TomlRows

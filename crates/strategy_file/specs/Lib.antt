@@ -1,9 +1,9 @@
+pub mod CsvRead
+pub mod CsvRows
 pub mod FileName
-pub mod Rows
-pub mod RowsLaw
-pub mod RowsRead
 pub mod SheetOf
 pub mod Sheets
 pub mod TomlRows
 pub use Rattle.lab_keys.specs.Keys
 pub use Rattle.lab_keys.specs.Refusing
+pub use Rattle.machine_rows.specs.Rows

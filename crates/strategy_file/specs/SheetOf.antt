@@ -15,7 +15,7 @@ use Rattle.lab_keys.specs.Keys.{found_at, text_at, text_of, array_of, whole_at, 
 use Rattle.strategy_file.specs.declared.draft.Draft.{Draft}
 use Rattle.strategy_file.specs.declared.draft.Draft.TheVariants.{Ready, FromFile}
 use Rattle.strategy_file.specs.FileName.{file_name_of}
-use Rattle.strategy_file.specs.Rows.{machine_sheet}
+use Rattle.machine_rows.specs.Rows.{machine_sheet}
 use Rattle.strategy_file.specs.Sheets.{vector_with, table_with, plug_with}
 use Rattle.strategy_file.specs.TomlRows.{move_of, last_state, rows_in}
 

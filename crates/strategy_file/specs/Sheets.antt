@@ -1,23 +1,12 @@
--- The sheets of the four kinds, from their numbers and lists.
+-- The sheets of vectors, lookup tables and plugs, from their numbers and lists.
 use Rattle.std.specs.Prelude.{ℕ, List, [], ◌∷◌}
-use Rattle.history_model.specs.declared.moves.Move.{Move}
-use Rattle.history_model.specs.declared.moves.Move.TheVariants.{C, D}
-use Rattle.player_core.specs.declared.kind.Kind.TheVariants.{MemoryOne, Machine, Lookup, Plug}
+use Rattle.player_core.specs.declared.kind.Kind.TheVariants.{MemoryOne, Lookup, Plug}
 use Rattle.player_core.specs.State.{no_name}
 use Rattle.player_core.specs.Sheet.{SheetData}
-
--- 1 for C and 0 for D
-abbrev pub weight_of : Move → ℕ
-weight_of C = 1
-weight_of D = 0
 
 abbrev pub vector_with : ℕ → ℕ → List ℕ → SheetData
 vector_with den opening weights =
     record { kind = MemoryOne; den = den; own = 0; other = 0; first = 0; opening = opening ∷ []; table = weights; next = []; plug = no_name }
-
-abbrev pub machine_with : Move → List ℕ → List ℕ → SheetData
-machine_with opening table next =
-    record { kind = Machine; den = 1; own = 0; other = 0; first = 0; opening = weight_of opening ∷ []; table = table; next = next; plug = no_name }
 
 abbrev pub table_with : ℕ → ℕ → ℕ → ℕ → List ℕ → List ℕ → SheetData
 table_with den own other first opening table =

@@ -4,7 +4,7 @@ use Rattle.toml.specs.Data.{Data, Items, no_items, item, as_array, as_str}
 use Rattle.history_model.specs.declared.moves.Move.{Move}
 use Rattle.history_model.specs.declared.moves.Move.TheVariants.{C, D}
 use Rattle.lab_keys.specs.Keys.{number_within}
-use Rattle.strategy_file.specs.declared.transition.Transition.{Transition}
+use Rattle.machine_rows.specs.declared.transition.Transition.{Transition}
 
 -- the move that a text names
 abbrev pub move_of : List ℕ → Option Move

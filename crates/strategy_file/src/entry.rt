@@ -139,7 +139,7 @@ fn machine_of(alloc: Global, table: &Table, entry: u32) -> Result<Draft, FileErr
 {
     let start = whole(table, at(entry, KeyName::Start), 0, LAST_STATE)?;
     let word = text(table, at(entry, KeyName::Opening))?;
-    match move_of(word) {
+    match move_of(word.as_bytes()) {
         Some(opening) => machine_from(alloc, table, entry, start, opening),
         None => Err(FileError::Refused(Refusal::OutOfRange(at(entry, KeyName::Opening)))),
     }

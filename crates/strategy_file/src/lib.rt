@@ -1,20 +1,21 @@
 //! Reads one strategy of a lab file: a memory-one vector, a finite machine, a lookup table or the name
-//! of a plug.
+//! of a plug. A machine's rows may stand in a file of their own, which is read here too.
 #![tactic(auto)]
 
+mod csv_read;
+mod csv_rows;
 mod draft;
 mod entry;
 mod file_name;
-pub mod laws;
-mod machine;
 mod sheets;
-mod states;
 mod toml_rows;
-mod transition;
 
+pub use csv_rows::read_machine_csv;
 pub use draft::{Draft, MachineFile};
 pub use entry::read_sheet;
 pub use file_name::FileName;
 
+#[cfg(test)]
+mod csv_tests;
 #[cfg(test)]
 mod tests;

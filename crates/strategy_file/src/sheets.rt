@@ -1,11 +1,10 @@
-//! The sheets of the four kinds, from their numbers and lists.
+//! The sheets of vectors, lookup tables and plugs, from their numbers and lists.
 ghost use Rattle.std.specs.Prelude.{◌≡◌, ◌∷◌, [], IfOk};
 ghost use Rattle.history_model.specs.Name.{IsName};
-ghost use Rattle.player_core.specs.Sheet.{IsVector, IsMachine, IsTable};
-ghost use Rattle.strategy_file.specs.Sheets.{vector_with, machine_with, table_with, plug_with};
+ghost use Rattle.player_core.specs.Sheet.{IsVector, IsTable};
+ghost use Rattle.strategy_file.specs.Sheets.{vector_with, table_with, plug_with};
 
-use crate::transition::weight_of;
-use history_model::{Move, Name};
+use history_model::Name;
 use player_core::{Kind, Sheet, no_name};
 use std::alloc::{AllocError, Global};
 
@@ -36,29 +35,6 @@ pub fn vector_with(
         opening: single(alloc, opening)?,
         table: weights,
         next: Vec::new(alloc),
-        plug: no_name(),
-    })
-}
-
-/// The sheet of a finite machine.
-pub fn machine_with(
-    alloc: Global,
-    opening: Move,
-    table: Vec<u32>,
-    next: Vec<u32>,
-) -> Result<Sheet, AllocError>
-    requires { IsMachine (machine_with opening table.items next.items) }
-    ensures { IfOk result (λ sheet. sheet ≡ machine_with opening table.items next.items) }
-{
-    Ok(Sheet {
-        kind: Kind::Machine,
-        den: 1,
-        own: 0,
-        other: 0,
-        first: 0,
-        opening: single(alloc, weight_of(opening))?,
-        table,
-        next,
         plug: no_name(),
     })
 }

@@ -432,30 +432,3 @@ fn reads_entries(rt: HostRuntime) -> Result<(), Fail> {
     }
     Ok(())
 }
-
-// A machine that goes round so many states on hearing C, and stays where it is on hearing D.
-fn ring(alloc: Global, states: u32) -> Result<String, Fail> {
-    let mut text = String::from_str(
-        alloc,
-        "kind = \"machine\"\nstart = 0\nopening = \"C\"\nrows = [",
-    )?;
-    for state in 0..states {
-        let next = if state + 1 < states { state + 1 } else { 0 };
-        write!(
-            text,
-            "[{state}, \"C\", {next}, \"C\"], [{state}, \"D\", {state}, \"D\"], "
-        )?;
-    }
-    text.push_str("]")?;
-    Ok(text)
-}
-
-#[test]
-fn limits_states(rt: HostRuntime) -> Result<(), Fail> {
-    let most = answer(rt.alloc(), ring(rt.alloc(), 256)?.as_str())?;
-    assert!(rt; most.starts_with("Machine 1 0 0 0 - [1] [1, 0, 1, 0, "));
-    assert!(rt; most.ends_with(" 254, 253, 255, 254, 0, 255]"));
-    let more = answer(rt.alloc(), ring(rt.alloc(), 257)?.as_str())?;
-    assert_eq!(rt; more.as_str(), "TooManyRows");
-    Ok(())
-}

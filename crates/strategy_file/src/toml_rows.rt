@@ -2,14 +2,13 @@
 ghost use Rattle.std.specs.Prelude.{◌≡◌};
 ghost use Rattle.toml.specs.View.{view, array_view};
 ghost use Rattle.lab_keys.specs.Refusing.{Gives};
-ghost use Rattle.strategy_file.specs.Rows.{machine_sheet};
+ghost use Rattle.machine_rows.specs.Rows.{machine_sheet};
 ghost use Rattle.strategy_file.specs.TomlRows.{move_of, move_in, row_of, row_in, rows_in};
 
-use crate::machine::MachineRows;
-use crate::transition::Transition;
 use history_model::Move;
 use lab_keys::number_within;
 use lab_ports::{FileError, Refusal};
+use machine_rows::{MachineRows, Transition};
 use player_core::Sheet;
 use std::alloc::Global;
 use toml::Value;
@@ -19,12 +18,12 @@ use toml::value::Array;
 pub const LAST_STATE: u32 = 65_535;
 
 /// The move that a text names: `C` or `D`.
-pub fn move_of(text: &str) -> Option<Move>
+pub fn move_of(text: &[u8]) -> Option<Move>
     ensures { result ≡ move_of text.now }
 {
-    if text == "C" {
+    if text == b"C".as_slice() {
         Some(Move::C)
-    } else if text == "D" {
+    } else if text == b"D".as_slice() {
         Some(Move::D)
     } else {
         None
@@ -35,7 +34,7 @@ fn move_in(value: &Value) -> Option<Move>
     ensures { result ≡ move_in (view value.now) }
 {
     match value.as_str() {
-        Some(text) => move_of(text),
+        Some(text) => move_of(text.as_bytes()),
         None => None,
     }
 }

@@ -1,6 +1,6 @@
 use Rattle.std.proofs.Common.{◌≡◌, [], drop}
 use Rattle.toml.specs.View.{items_view}
-use Rattle.strategy_file.specs.Rows.{with_rows}
+use Rattle.machine_rows.specs.Rows.{with_rows}
 use Rattle.strategy_file.specs.TomlRows.{rows_in}
 use Rattle.strategy_file.proofs.toml_rows.machine_sheet.Given as goal
 
