@@ -134,7 +134,7 @@ fn sheet_of_rows(
     let mut rows = MachineRows::new(alloc, machine.start)?;
     while take_record(reader, row)? {
         match row_of(row) {
-            Some(row) => rows = rows.with(entry, row)?,
+            Some(transition) => rows = rows.with(entry, transition)?,
             None => {
                 return Err(FileError::Refused(Refusal::BadRows(entry, rows.following())));
             }
