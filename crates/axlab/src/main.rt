@@ -4,6 +4,7 @@
 use axlab_core::{Status, axlab};
 use history_model::NoMemory;
 use lab_ports::{FolderLibrary, Library, Sink, StreamSink, send};
+use lookup_player::LookupPlayer;
 use machine_player::MachinePlayer;
 use memory_player::MemoryPlayer;
 use player_core::{Bench, Side};
@@ -36,9 +37,11 @@ fn run<L: Library, O: Sink, E: Sink>(
     let mut left: Side = Vec::new(alloc);
     left.push(Box::new(alloc, MemoryPlayer::new(alloc)?)?)?;
     left.push(Box::new(alloc, MachinePlayer::new(alloc)?)?)?;
+    left.push(Box::new(alloc, LookupPlayer::new(alloc)?)?)?;
     let mut right: Side = Vec::new(alloc);
     right.push(Box::new(alloc, MemoryPlayer::new(alloc)?)?)?;
     right.push(Box::new(alloc, MachinePlayer::new(alloc)?)?)?;
+    right.push(Box::new(alloc, LookupPlayer::new(alloc)?)?)?;
     for which in Builtin::ALL {
         left.push(Box::new(alloc, PlugPlayer::new(which))?)?;
         right.push(Box::new(alloc, PlugPlayer::new(which))?)?;

@@ -39,7 +39,7 @@ plays_sure : (kind : Kind) (players : List Lasting) (sheet : SheetData) → sure
     → is_sure (automaton_by kind sheet (plug_automaton players sheet.plug)) ≡ true
 plays_sure MemoryOne players sheet h = h
 plays_sure Machine players sheet h = h
-plays_sure Lookup players sheet h = absurd (cc)
+plays_sure Lookup players sheet h = h
 plays_sure Plug players sheet h = named_sure (drop first_plug players) sheet.plug h
 
 -- a sheet that is sure by the notes plays a sure automaton on the bench

@@ -1,4 +1,6 @@
+pub mod Asking
 pub mod Loading
+pub mod Noting
 pub mod Completeness
 pub mod Entries
 pub mod Padded
