@@ -104,6 +104,10 @@ fn starting_with(d: bool) -> Echo {
     }
 }
 
+fn are_at_start(players: &Side) -> bool {
+    players.iter().all(|player| player.save() == player.start())
+}
+
 // Whether a bench fits whose second plugs are these echoes, and whether each mark is at its start
 // after that test.
 fn fits_with(alloc: Global, left_echo: Echo, right_echo: Echo) -> Result<(bool, bool), Fail> {
@@ -123,11 +127,10 @@ fn fits_with(alloc: Global, left_echo: Echo, right_echo: Echo) -> Result<(bool, 
     right.push(Box::new(alloc, right_echo)?)?;
     let mut bench = Bench { left, right };
     let fits = bench.fits();
-    let mut all_start = true;
-    for player in bench.left.iter().chain(&bench.right) {
-        all_start &= player.save() == player.start();
-    }
-    Ok((fits, all_start))
+    Ok((
+        fits,
+        are_at_start(&bench.left) && are_at_start(&bench.right),
+    ))
 }
 
 #[test]
