@@ -1,6 +1,6 @@
 -- The lab of a command, read by read.
-use Rattle.std.proofs.Common.{◌≡◌, ◌⊎◌, ℕ, zero, suc, ◌+◌, ◌<◌, ◌≤◌, true, List, [], ◌∷◌, ◌++◌, All, length, take, drop, set, slice_get, get_or, Option, Some, None, option_map, Result, Ok, Err, refl, sym, ◌∙◌, ap, inl, inr, arith, add-one, drop-cons}
-use Rattle.std.proofs.lemmas.List.{append_assoc, length-take-le, length-set, length-append, take_all, drop_all, take_more_set, drop-set-lt, set_split, take-append-drop}
+use Rattle.std.proofs.Common.{◌≡◌, ℕ, zero, suc, ◌+◌, ◌<◌, ◌≤◌, List, [], ◌∷◌, ◌++◌, All, length, take, drop, set, slice_get, get_or, Option, Some, None, Result, Ok, Err, refl, sym, ◌∙◌, ap, inl, inr, arith, add-one, drop-cons}
+use Rattle.std.proofs.lemmas.List.{append_assoc, length-take-le, length-set, length-append, take_all, drop_all, take_more_set, drop-set-lt}
 use Rattle.std.proofs.lemmas.List.Elements.{All-push}
 use Rattle.player_core.specs.declared.bench.PlugNote.{PlugNote}
 use Rattle.lab_ports.specs.declared.refusal.Refusal.{Refusal}
@@ -22,7 +22,7 @@ use Rattle.lab_file.specs.Attached.{attached, draft_with, set_draft}
 use Rattle.lab_file.specs.Limits.{limits_of}
 use Rattle.axlab_core.specs.declared.load.LoadError.{LoadError}
 use Rattle.axlab_core.specs.declared.load.LoadError.TheVariants.{Unread, Refused, NoMemory}
-use Rattle.axlab_core.specs.Loading.{Stop, Missing, Refuses, ◌>>=◌, or_missing, or_stop, front_of, lab_source, machine_source, draft_read, entries_read, lab_given, lab_for, Loads, IsTold}
+use Rattle.axlab_core.specs.Loading.{Stop, Missing, Refuses, ◌>>=◌, or_missing, or_stop, lab_source, machine_source, draft_read, entries_read, Loads, IsTold}
 use Rattle.axlab_core.specs.Steps.{of_file, ReadFails, Explains, IsReadyDraft, IsReadyEntry, ReadsLab, Attaches, StepStops, AttachesAll, AttachStops}
 
 -- what a read gave is what the source has
@@ -209,20 +209,20 @@ one_stops source entries k stop inside read =
 
 pub next_step : (holding : Option Holding) (old now new : LabData) (k : ℕ) → k < length now.entries → SoFar holding old now k → Attaches holding k now new → SoFar holding old new (k + 1)
 next_step holding old now new k inside far step =
-  let entries_now : new.entries ≡ set_draft now.entries k step.draft = ap (λ (l : LabData). l.entries) step.set in
-  record {
-  given = far.given ++ step.bytes ∷ [];
-  count = rw (length-append, far.count) refl;
-  same = λ more.
-      let grown : (far.given ++ step.bytes ∷ []) ++ more ≡ far.given ++ (step.bytes ∷ more) = append_assoc far.given (step.bytes ∷ []) more in
-      let source = machine_source holding (far.given ++ (step.bytes ∷ more)) in
-      let moved : entries_read source [] old.entries ≡ entries_read source (take (k + 1) new.entries) (drop (k + 1) new.entries)
-      = far.same (step.bytes ∷ more) ∙ one_more source now.entries k step.draft inside (step.read far.given more far.count)
+    let entries_now : new.entries ≡ set_draft now.entries k step.draft = ap (λ (l : LabData). l.entries) step.set in
+    record {
+      given = far.given ++ step.bytes ∷ [];
+      count = rw (length-append, far.count) refl;
+      same = λ more.
+          let grown : (far.given ++ step.bytes ∷ []) ++ more ≡ far.given ++ (step.bytes ∷ more) = append_assoc far.given (step.bytes ∷ []) more in
+          let source = machine_source holding (far.given ++ (step.bytes ∷ more)) in
+          let moved : entries_read source [] old.entries ≡ entries_read source (take (k + 1) new.entries) (drop (k + 1) new.entries)
+          = far.same (step.bytes ∷ more) ∙ one_more source now.entries k step.draft inside (step.read far.given more far.count)
           ∙ ap (λ es. entries_read source (take (k + 1) es) (drop (k + 1) es)) (sym entries_now) in
-      rw grown moved;
-  rest = step.set ∙ ap (λ es. record now { entries = es }) (sym entries_now) ∙ ap (λ (l : LabData). record l { entries = new.entries }) far.rest;
-  as_many = ap length entries_now ∙ length-set now.entries k _ ∙ far.as_many;
-}
+          rw grown moved;
+      rest = step.set ∙ ap (λ es. record now { entries = es }) (sym entries_now) ∙ ap (λ (l : LabData). record l { entries = new.entries }) far.rest;
+      as_many = ap length entries_now ∙ length-set now.entries k _ ∙ far.as_many;
+    }
 
 pub stopped : (holding : Option Holding) (old now : LabData) (k : ℕ) (stop : Stop) → k < length now.entries → SoFar holding old now k → StepStops holding k now stop → AttachStops holding old stop
 stopped holding old now k stop inside far step = record {

@@ -1,5 +1,5 @@
 -- What the reads of a run give, and the lab that they make: the one order in which a lab's faults are told.
-use Rattle.std.specs.Prelude.{◌≡◌, ℕ, ◌+◌, Bool, true, is_some, List, [], ◌∷◌, ◌++◌, length, take, slice_get, Option, Some, None, option_map, Result, Ok, Err}
+use Rattle.std.specs.Prelude.{◌≡◌, ℕ, ◌+◌, true, is_some, List, [], ◌∷◌, ◌++◌, length, take, slice_get, Option, Some, None, option_map, Result, Ok, Err}
 use Rattle.player_core.specs.declared.bench.PlugNote.{PlugNote}
 use Rattle.lab_ports.specs.declared.refusal.Refusal.{Refusal}
 use Rattle.lab_ports.specs.Holding.{Holding, file_of}

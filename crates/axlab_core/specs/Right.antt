@@ -17,7 +17,7 @@ use Rattle.lab_ports.specs.Causes.{Rose}
 use Rattle.lab_ports.specs.Holding.{Holding, Grew, GrewByPart}
 use Rattle.axlab_core.specs.declared.words.Form.{Form}
 use Rattle.axlab_core.specs.declared.words.Form.TheVariants.{Match, Unbuilt, Faulty}
-use Rattle.axlab_core.specs.Loading.{Stop, Missing, Refuses, Loads, IsTold}
+use Rattle.axlab_core.specs.Loading.{Missing, Refuses, Loads, IsTold}
 use Rattle.axlab_core.specs.Report.{match_text}
 use Rattle.axlab_core.specs.Sides.{Turns, MadeTurns}
 

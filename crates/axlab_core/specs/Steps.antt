@@ -1,8 +1,6 @@
 -- How a lab is loaded, read by read.
-use Rattle.std.specs.Prelude.{◌≡◌, ◌⊎◌, ℕ, List, [], ◌∷◌, ◌++◌, length, Option, Some, Result, Ok, Err}
+use Rattle.std.specs.Prelude.{◌≡◌, ◌⊎◌, ℕ, List, [], ◌∷◌, ◌++◌, length, Option, Result, Ok, Err}
 use Rattle.player_core.specs.declared.bench.PlugNote.{PlugNote}
-use Rattle.lab_ports.specs.declared.library.LibraryError.{LibraryError}
-use Rattle.lab_ports.specs.declared.library.LibraryError.TheVariants as library
 use Rattle.lab_ports.specs.declared.refusal.FileError.{FileError}
 use Rattle.lab_ports.specs.declared.refusal.FileError.TheVariants as file
 use Rattle.lab_ports.specs.Holding.{Holding}
@@ -13,7 +11,7 @@ use Rattle.lab_file.specs.Lab.{LabData, entry_at}
 use Rattle.lab_file.specs.Attached.{set_draft}
 use Rattle.axlab_core.specs.declared.load.LoadError.{LoadError}
 use Rattle.axlab_core.specs.declared.load.LoadError.TheVariants.{Unread, Refused, NoMemory}
-use Rattle.axlab_core.specs.Loading.{Stop, Missing, Refuses, IsTold, lab_source, machine_source, lab_given, draft_read, entries_read}
+use Rattle.axlab_core.specs.Loading.{Stop, Missing, Refuses, lab_source, machine_source, lab_given, draft_read, entries_read}
 
 -- a file's error
 abbrev pub of_file : FileError → LoadError
