@@ -73,7 +73,7 @@ pub record WrotePart (form : Form) (players : List Lasting) (name : List ℕ) (h
   pub promised : IsPromised form players name holding text
   pub took : GrewByPart before now text
 
--- why a command is refused
+-- why a command is refused: its files are, in the one order; or it isn't built
 abbrev pub WhyRefused : Form → List Lasting → List ℕ → Option Holding → Refusal → Type 0
 WhyRefused Match players name holding refusal = Loads commands.Match (notes_of players) name holding (Err (Refuses refusal))
 WhyRefused Unbuilt players name holding refusal = refusal ≡ NotBuilt
