@@ -1,5 +1,5 @@
 -- Players that play every turn were asked.
-use Rattle.std.proofs.Common.{◌≡◌, ℕ, ◌≤◌, ◌*◌, List, inl, inr, arith}
+use Rattle.std.proofs.Common.{ℕ, ◌≤◌, ◌*◌, List, inl, inr, arith}
 use Rattle.player_core.specs.State.{Lasting}
 use Rattle.player_core.specs.Counts.{Grew}
 use Rattle.lab_file.specs.Lab.{LabData}
@@ -10,9 +10,9 @@ made_turns : (n j : ℕ) (before now : Turns) → j ≤ n → Grew n before.left
 made_turns n j before now few left right =
     elim left.total [
       | inl more ↦ elim right.total [
-          | inl more' ↦ inl (omega arith)
-          | inr full ↦ inr (inr full)
-        ]
+        | inl more' ↦ inl (omega arith)
+        | inr full ↦ inr (inr full)
+      ]
       | inr full ↦ inr (inl full)
     ]
 

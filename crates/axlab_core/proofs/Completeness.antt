@@ -13,7 +13,7 @@ use Rattle.axlab_core.specs.declared.words.Form.TheVariants.{Match, Unbuilt, Fau
 use Rattle.axlab_core.specs.declared.status.Status.{Status}
 use Rattle.axlab_core.specs.declared.status.Status.TheVariants.{Answered, Denied, Usage, ReadFault, Refused, WriteFault, NoMemory}
 use Rattle.axlab_core.specs.Complete.{Holds, HoldsLab, HoldsRefused, LacksFile, IsStatusOrMemory}
-use Rattle.axlab_core.specs.Loading.{Stop, Missing, Refuses, Loads, IsTold, lab_for, lab_source, machine_source}
+use Rattle.axlab_core.specs.Loading.{Stop, Missing, Refuses, Loads, IsTold, lab_for, file_source, machine_source}
 use Rattle.axlab_core.specs.Outcome.{OnAnswered, OnReadFault, OnWriteFault, IfRefused, IfDenied}
 use Rattle.axlab_core.specs.Right.{WhyRefused, WhyUnread, Wrote, WrotePart}
 
@@ -21,7 +21,7 @@ use Rattle.axlab_core.specs.Right.{WhyRefused, WhyUnread, Wrote, WrotePart}
 pub same_answer : (form : Form) (players : List Lasting) (name : List ℕ) (holding : Option Holding) (one other : Result LabData Stop)
     → Holds form players name holding one → Loads commands.Match (notes_of players) name holding other → other ≡ one
 same_answer form players name holding one other held loads =
-    let there : lab_for commands.Match (notes_of players) (lab_source (Some held.files) loads.lab_given name) (machine_source (Some held.files) loads.machines_given) ≡ other
+    let there : lab_for commands.Match (notes_of players) (file_source (Some held.files) loads.lab_given name) (machine_source (Some held.files) loads.machines_given) ≡ other
     = rw held.told at loads.is in
     sym there ∙ held.is
 

@@ -1,7 +1,8 @@
 -- The lab of a command, read by read.
-use Rattle.std.proofs.Common.{◌≡◌, ◌⊎◌, ℕ, zero, suc, ◌+◌, ◌<◌, ◌≤◌, true, List, [], ◌∷◌, ◌++◌, All, length, take, drop, set, slice_get, get_or, Option, Some, None, option_map, Result, Ok, Err, refl, sym, ◌∙◌, ap, inl, inr, arith, add-one, drop-cons}
-use Rattle.std.proofs.lemmas.List.{append_assoc, length-take-le, length-set, length-append, take_all, drop_all, take_more_set, drop-set-lt, set_split, take-append-drop}
+use Rattle.std.proofs.Common.{◌≡◌, ℕ, zero, suc, ◌+◌, ◌<◌, ◌≤◌, List, [], ◌∷◌, ◌++◌, All, length, take, drop, set, get_or, Option, Some, None, Result, Ok, Err, refl, sym, ◌∙◌, ap, inl, inr, arith, add-one, drop-cons}
+use Rattle.std.proofs.lemmas.List.{append_assoc, length-take-le, length-set, length-append, take_all, drop_all, take_more_set, drop-set-lt}
 use Rattle.std.proofs.lemmas.List.Elements.{All-push}
+use Rattle.std.proofs.Math.Seq.{get_or-append_seam}
 use Rattle.player_core.specs.declared.bench.PlugNote.{PlugNote}
 use Rattle.lab_ports.specs.declared.refusal.Refusal.{Refusal}
 use Rattle.lab_ports.specs.declared.refusal.FileError.{FileError}
@@ -22,40 +23,27 @@ use Rattle.lab_file.specs.Attached.{attached, draft_with, set_draft}
 use Rattle.lab_file.specs.Limits.{limits_of}
 use Rattle.axlab_core.specs.declared.load.LoadError.{LoadError}
 use Rattle.axlab_core.specs.declared.load.LoadError.TheVariants.{Unread, Refused, NoMemory}
-use Rattle.axlab_core.specs.Loading.{Stop, Missing, Refuses, ◌>>=◌, or_missing, or_stop, front_of, lab_source, machine_source, draft_read, entries_read, lab_given, lab_for, Loads, IsTold}
-use Rattle.axlab_core.specs.Steps.{of_file, ReadFails, Explains, IsReadyDraft, IsReadyEntry, ReadsLab, Attaches, StepStops, AttachesAll, AttachStops}
+use Rattle.axlab_core.specs.Loading.{Stop, Missing, Refuses, ◌>>=◌, or_missing, or_stop, file_source, machine_source, draft_read, entries_read, Loads, IsTold}
+use Rattle.axlab_core.specs.Steps.{of_file, ReadFails, Explains, IsReadyDraft, IsReadyEntry, ReadsLab, Attaches, AttachStops, AttachesAll, AttachAllStops}
 
 -- what a read gave is what the source has
-lab_gave : (holding : Option Holding) (name bytes : List ℕ) → IsFront holding name 1048576 bytes → lab_source holding bytes name ≡ Some bytes
-lab_gave None name bytes front = refl
-lab_gave (Some files) name bytes front = front
+gave : (holding : Option Holding) (name bytes : List ℕ) → IsFront holding name 1048576 bytes → file_source holding bytes name ≡ Some bytes
+gave None name bytes front = refl
+gave (Some files) name bytes front = front
 
-lab_lacks : (holding : Option Holding) (name given : List ℕ) → IsMissing holding name → lab_source holding given name ≡ None
-lab_lacks None name given missing = absurd missing
-lab_lacks (Some files) name given missing = rw missing refl
+lacks : (holding : Option Holding) (name given : List ℕ) → IsMissing holding name → file_source holding given name ≡ None
+lacks None name given missing = absurd missing
+lacks (Some files) name given missing = rw missing refl
 
 told : (holding : Option Holding) (name : List ℕ) → IsMissing holding name → IsTold holding
 told None name missing = absurd missing
 told (Some files) name missing = refl
 
-get_there : (given more : List (List ℕ)) (bytes : List ℕ) → slice_get (given ++ bytes ∷ more) (length given) ≡ Some bytes
-get_there [] more bytes = refl
-get_there (one ∷ given) more bytes = get_there given more bytes
-
-machine_gave : (holding : Option Holding) (given more : List (List ℕ)) (place : ℕ) (name bytes : List ℕ) → length given ≡ place → IsFront holding name 1048576 bytes
-    → machine_source holding (given ++ bytes ∷ more) place name ≡ Some bytes
-machine_gave None given more place name bytes count front = rw (sym count) (get_there given more bytes)
-machine_gave (Some files) given more place name bytes count front = front
-
-machine_lacks : (holding : Option Holding) (given : List (List ℕ)) (place : ℕ) (name : List ℕ) → IsMissing holding name → machine_source holding given place name ≡ None
-machine_lacks None given place name missing = absurd missing
-machine_lacks (Some files) given place name missing = rw missing refl
-
 -- errors say why
 pub explains_read : (error : LoadError) (failed : Type 0) (holding : Option Holding) (name : List ℕ) (stops : Stop → Type 0)
     → ReadFails error failed (IsMissing holding name) → (IsMissing holding name → stops Missing) → Explains error failed (IsTold holding) stops
 explains_read Unread failed holding name stops (inl fault) missing = inl fault
-explains_read Unread failed holding name stops (inr lacks) missing = inr (told holding name lacks, missing lacks)
+explains_read Unread failed holding name stops (inr none) missing = inr (told holding name none, missing none)
 explains_read (Refused refusal) failed holding name stops fails missing = absurd fails
 explains_read NoMemory failed holding name stops fails missing = tt
 
@@ -75,10 +63,10 @@ explains_more NoMemory failed failed' is_told stops stops' why faults more = tt
 pub reads_lab : (notes : List PlugNote) (name : List ℕ) (holding : Option Holding) (bytes read : List ℕ) (reading : Result LabData Refusal)
     → IsFront holding name 1048576 bytes → read ≡ bytes → lab_of notes read ≡ reading → ReadsLab notes name holding (or_stop reading)
 reads_lab notes name holding bytes read reading front same is =
-    record { given = bytes; is = rw (lab_gave holding name bytes front) (ap (λ b. or_stop (lab_of notes b)) (sym same) ∙ ap or_stop is) }
+    record { given = bytes; is = rw (gave holding name bytes front) (ap (λ b. or_stop (lab_of notes b)) (sym same) ∙ ap or_stop is) }
 
 pub reads_nothing : (notes : List PlugNote) (name : List ℕ) (holding : Option Holding) → IsMissing holding name → ReadsLab notes name holding (Err Missing)
-reads_nothing notes name holding missing = record { given = []; is = rw (lab_lacks holding name [] missing) refl }
+reads_nothing notes name holding missing = record { given = []; is = rw (lacks holding name [] missing) refl }
 
 -- one entry
 set_same : {X : Type 0} (xs : List X) (i : ℕ) (d : X) → i < length xs → set xs i (get_or xs i d) ≡ xs
@@ -96,7 +84,7 @@ pub attaches_ready : (holding : Option Holding) (place : ℕ) (lab : LabData) (s
 attaches_ready holding place lab (Ready sheet) inside is ready = record {
   bytes = [];
   draft = Ready sheet;
-  read = λ given more count. rw is refl;
+  read = rw is refl;
   set = ap (λ es. record lab { entries = es }) (sym (set_alike lab.entries place (Ready sheet) inside is));
 }
 attaches_ready holding place lab (FromFile machine) inside is ready = absurd ready
@@ -112,12 +100,12 @@ with_bytes lab now place bytes (Err refusal) is all =
     absurd (cc)
 
 -- the draft of a machine whose file is there
-with_file : (holding : Option Holding) (given : List (List ℕ)) (place : ℕ) (draft : Draft) (machine : MachineFile) (bytes : List ℕ) (made : Result Draft Refusal) → draft ≡ FromFile machine
-    → machine_source holding given place machine.file ≡ Some bytes → draft_with (place + 1) (FromFile machine) bytes ≡ made
-    → draft_read (machine_source holding given) place draft ≡ or_stop made
-with_file holding given place draft machine bytes made is gave drafted =
-    ap (draft_read (machine_source holding given) place) is
-    ∙ ap (λ found. or_missing found >>= λ b. or_stop (draft_with (place + 1) (FromFile machine) b)) gave
+with_file : (holding : Option Holding) (place : ℕ) (draft : Draft) (machine : MachineFile) (bytes : List ℕ) (made : Result Draft Refusal) → draft ≡ FromFile machine
+    → file_source holding bytes machine.file ≡ Some bytes → draft_with (place + 1) (FromFile machine) bytes ≡ made
+    → draft_read (file_source holding bytes) place draft ≡ or_stop made
+with_file holding place draft machine bytes made is there drafted =
+    ap (draft_read (file_source holding bytes) place) is
+    ∙ ap (λ found. or_missing found >>= λ b. or_stop (draft_with (place + 1) (FromFile machine) b)) there
     ∙ ap or_stop drafted
 
 pub attaches_file : (holding : Option Holding) (place : ℕ) (lab now : LabData) (machine : MachineFile) (name bytes read : List ℕ)
@@ -129,7 +117,7 @@ attaches_file holding place lab now machine name bytes read is named front_of_na
     record {
       bytes = bytes;
       draft = made.0;
-      read = λ given more count. with_file holding (given ++ bytes ∷ more) place (entry_at lab.entries place).draft machine bytes (Ok made.0) is (machine_gave holding given more place machine.file bytes count front) given_draft;
+      read = with_file holding place (entry_at lab.entries place).draft machine bytes (Ok made.0) is (gave holding machine.file bytes front) given_draft;
       set = made.2;
     }
 
@@ -145,23 +133,23 @@ of_draft lab place bytes refusal (Err other) is all =
 
 pub stops_refused : (holding : Option Holding) (place : ℕ) (lab : LabData) (machine : MachineFile) (name bytes read : List ℕ) (refusal : Refusal)
     → (entry_at lab.entries place).draft ≡ FromFile machine → name ≡ machine.file → IsFront holding name 1048576 bytes → read ≡ bytes → attached lab place read ≡ Err refusal
-    → StepStops holding place lab (Refuses refusal)
+    → AttachStops holding place lab (Refuses refusal)
 stops_refused holding place lab machine name bytes read refusal is named front_of_name same all =
     let front : IsFront holding machine.file 1048576 bytes = rw named at front_of_name in
     let made = of_draft lab place bytes refusal (draft_with (place + 1) (entry_at lab.entries place).draft bytes) refl (ap (attached lab place) (sym same) ∙ all) in
     let given_draft : draft_with (place + 1) (FromFile machine) bytes ≡ Err refusal = ap (λ d. draft_with (place + 1) d bytes) (sym is) ∙ made in
     record {
       bytes = bytes;
-      read = λ given more count. with_file holding (given ++ bytes ∷ more) place (entry_at lab.entries place).draft machine bytes (Err refusal) is (machine_gave holding given more place machine.file bytes count front) given_draft;
+      read = with_file holding place (entry_at lab.entries place).draft machine bytes (Err refusal) is (gave holding machine.file bytes front) given_draft;
     }
 
 pub stops_missing : (holding : Option Holding) (place : ℕ) (lab : LabData) (machine : MachineFile) (name : List ℕ)
-    → (entry_at lab.entries place).draft ≡ FromFile machine → name ≡ machine.file → IsMissing holding name → StepStops holding place lab Missing
-stops_missing holding place lab machine name is named lacks =
-    let missing : IsMissing holding machine.file = rw named at lacks in
+    → (entry_at lab.entries place).draft ≡ FromFile machine → name ≡ machine.file → IsMissing holding name → AttachStops holding place lab Missing
+stops_missing holding place lab machine name is named none =
+    let missing : IsMissing holding machine.file = rw named at none in
     record {
       bytes = [];
-      read = λ given more count. rw (is, machine_lacks holding (given ++ [] ∷ more) place machine.file missing) refl;
+      read = rw (is, lacks holding machine.file [] missing) refl;
     }
 
 -- as far as the entries are read
@@ -183,7 +171,7 @@ none_yet holding lab = record {
 }
 
 -- the entry at the place with its draft, and those behind it
-one_more : (source : ℕ → List ℕ → Option (List ℕ)) (entries : List Entry) (k : ℕ) (draft : Draft) → k < length entries → draft_read source k (entry_at entries k).draft ≡ Ok draft
+one_more : (source : ℕ → List ℕ → Option (List ℕ)) (entries : List Entry) (k : ℕ) (draft : Draft) → k < length entries → draft_read (source k) k (entry_at entries k).draft ≡ Ok draft
     → entries_read source (take k entries) (drop k entries) ≡ entries_read source (take (k + 1) (set_draft entries k draft)) (drop (k + 1) (set_draft entries k draft))
 one_more source entries k draft inside read =
     let entry = entry_at entries k in
@@ -193,41 +181,48 @@ one_more source entries k draft inside read =
     let taken : take (k + 1) (set_draft entries k draft) ≡ take k entries ++ drafted ∷ [] = take_more_set entries k drafted inside in
     let left : drop (k + 1) (set_draft entries k draft) ≡ drop (k + 1) entries = drop-set-lt (k + 1) entries k drafted (omega arith) in
     ap (entries_read source (take k entries)) here
-    ∙ ap (λ n. draft_read source n entry.draft >>= λ d. entries_read source (take k entries ++ (record entry { draft = d }) ∷ []) (drop (suc k) entries)) count
+    ∙ ap (λ n. draft_read (source n) n entry.draft >>= λ d. entries_read source (take k entries ++ (record entry { draft = d }) ∷ []) (drop (suc k) entries)) count
     ∙ ap (λ r. r >>= λ d. entries_read source (take k entries ++ (record entry { draft = d }) ∷ []) (drop (suc k) entries)) read
     ∙ rw (taken, left, add-one k) refl
 
-one_stops : (source : ℕ → List ℕ → Option (List ℕ)) (entries : List Entry) (k : ℕ) (stop : Stop) → k < length entries → draft_read source k (entry_at entries k).draft ≡ Err stop
+one_stops : (source : ℕ → List ℕ → Option (List ℕ)) (entries : List Entry) (k : ℕ) (stop : Stop) → k < length entries → draft_read (source k) k (entry_at entries k).draft ≡ Err stop
     → entries_read source (take k entries) (drop k entries) ≡ Err stop
 one_stops source entries k stop inside read =
     let entry = entry_at entries k in
     let here : drop k entries ≡ entry ∷ drop (suc k) entries = drop-cons entries k no_entry inside in
     let count : length (take k entries) ≡ k = length-take-le k entries (omega arith) in
     ap (entries_read source (take k entries)) here
-    ∙ ap (λ n. draft_read source n entry.draft >>= λ d. entries_read source (take k entries ++ (record entry { draft = d }) ∷ []) (drop (suc k) entries)) count
+    ∙ ap (λ n. draft_read (source n) n entry.draft >>= λ d. entries_read source (take k entries ++ (record entry { draft = d }) ∷ []) (drop (suc k) entries)) count
     ∙ ap (λ r. r >>= λ d. entries_read source (take k entries ++ (record entry { draft = d }) ∷ []) (drop (suc k) entries)) read
+
+-- the file of the entry at a place is what the read for it gave
+read_here : (holding : Option Holding) (given more : List (List ℕ)) (bytes : List ℕ) (k : ℕ) (draft : Draft) → length given ≡ k
+    → draft_read (machine_source holding (given ++ bytes ∷ more) k) k draft ≡ draft_read (file_source holding bytes) k draft
+read_here holding given more bytes k draft count =
+    let there : get_or (given ++ bytes ∷ more) k [] ≡ bytes = rw (sym count) (get_or-append_seam given bytes more []) in
+    ap (λ b. draft_read (file_source holding b) k draft) there
 
 pub next_step : (holding : Option Holding) (old now new : LabData) (k : ℕ) → k < length now.entries → SoFar holding old now k → Attaches holding k now new → SoFar holding old new (k + 1)
 next_step holding old now new k inside far step =
-  let entries_now : new.entries ≡ set_draft now.entries k step.draft = ap (λ (l : LabData). l.entries) step.set in
-  record {
-  given = far.given ++ step.bytes ∷ [];
-  count = rw (length-append, far.count) refl;
-  same = λ more.
-      let grown : (far.given ++ step.bytes ∷ []) ++ more ≡ far.given ++ (step.bytes ∷ more) = append_assoc far.given (step.bytes ∷ []) more in
-      let source = machine_source holding (far.given ++ (step.bytes ∷ more)) in
-      let moved : entries_read source [] old.entries ≡ entries_read source (take (k + 1) new.entries) (drop (k + 1) new.entries)
-      = far.same (step.bytes ∷ more) ∙ one_more source now.entries k step.draft inside (step.read far.given more far.count)
+    let entries_now : new.entries ≡ set_draft now.entries k step.draft = ap (λ (l : LabData). l.entries) step.set in
+    record {
+      given = far.given ++ step.bytes ∷ [];
+      count = rw (length-append, far.count) refl;
+      same = λ more.
+          let grown : (far.given ++ step.bytes ∷ []) ++ more ≡ far.given ++ (step.bytes ∷ more) = append_assoc far.given (step.bytes ∷ []) more in
+          let source = machine_source holding (far.given ++ (step.bytes ∷ more)) in
+          let moved : entries_read source [] old.entries ≡ entries_read source (take (k + 1) new.entries) (drop (k + 1) new.entries)
+          = far.same (step.bytes ∷ more) ∙ one_more source now.entries k step.draft inside (read_here holding far.given more step.bytes k (entry_at now.entries k).draft far.count ∙ step.read)
           ∙ ap (λ es. entries_read source (take (k + 1) es) (drop (k + 1) es)) (sym entries_now) in
-      rw grown moved;
-  rest = step.set ∙ ap (λ es. record now { entries = es }) (sym entries_now) ∙ ap (λ (l : LabData). record l { entries = new.entries }) far.rest;
-  as_many = ap length entries_now ∙ length-set now.entries k _ ∙ far.as_many;
-}
+          rw grown moved;
+      rest = step.set ∙ ap (λ es. record now { entries = es }) (sym entries_now) ∙ ap (λ (l : LabData). record l { entries = new.entries }) far.rest;
+      as_many = ap length entries_now ∙ length-set now.entries k _ ∙ far.as_many;
+    }
 
-pub stopped : (holding : Option Holding) (old now : LabData) (k : ℕ) (stop : Stop) → k < length now.entries → SoFar holding old now k → StepStops holding k now stop → AttachStops holding old stop
+pub stopped : (holding : Option Holding) (old now : LabData) (k : ℕ) (stop : Stop) → k < length now.entries → SoFar holding old now k → AttachStops holding k now stop → AttachAllStops holding old stop
 stopped holding old now k stop inside far step = record {
   given = far.given ++ step.bytes ∷ [];
-  is = far.same (step.bytes ∷ []) ∙ one_stops (machine_source holding (far.given ++ step.bytes ∷ [])) now.entries k stop inside (step.read far.given [] far.count);
+  is = far.same (step.bytes ∷ []) ∙ one_stops (machine_source holding (far.given ++ step.bytes ∷ [])) now.entries k stop inside (read_here holding far.given [] step.bytes k (entry_at now.entries k).draft far.count ∙ step.read);
 }
 
 pub all_read : (holding : Option Holding) (old now : LabData) (k : ℕ) → length now.entries ≤ k → SoFar holding old now k → AttachesAll holding old now
@@ -260,18 +255,18 @@ of_rows number machine bytes made (Err refusal) is drafted =
     let none : Err refusal ≡ Ok made = rw is at drafted in
     absurd (cc)
 
-draft_ready : (source : ℕ → List ℕ → Option (List ℕ)) (place : ℕ) (draft made : Draft) → draft_read source place draft ≡ Ok made → IsReadyDraft made
+draft_ready : (source : List ℕ → Option (List ℕ)) (place : ℕ) (draft made : Draft) → draft_read source place draft ≡ Ok made → IsReadyDraft made
 draft_ready source place (Ready sheet) made read = let same : Ready sheet ≡ made = cc in rw (sym same) tt
 draft_ready source place (FromFile machine) made read =
-    let found = goes_on (or_missing (source place machine.file)) (λ bytes. or_stop (draft_with (place + 1) (FromFile machine) bytes)) made read in
+    let found = goes_on (or_missing (source machine.file)) (λ bytes. or_stop (draft_with (place + 1) (FromFile machine) bytes)) made read in
     of_rows (place + 1) machine found.0 made (csv_sheet (place + 1) machine found.0) refl (not_stopped (draft_with (place + 1) (FromFile machine) found.0) made found.2)
 
 entries_ready : (source : ℕ → List ℕ → Option (List ℕ)) (done entries now : List Entry) → All IsReadyEntry done → entries_read source done entries ≡ Ok now → All IsReadyEntry now
 entries_ready source done [] now ready read = let same : done ≡ now = cc in rw (sym same) ready
 entries_ready source done (entry ∷ rest) now ready read =
-    let step = goes_on (draft_read source (length done) entry.draft) (λ d. entries_read source (done ++ (record entry { draft = d }) ∷ []) rest) now read in
+    let step = goes_on (draft_read (source (length done)) (length done) entry.draft) (λ d. entries_read source (done ++ (record entry { draft = d }) ∷ []) rest) now read in
     entries_ready source (done ++ (record entry { draft = step.0 }) ∷ []) rest now
-    (All-push IsReadyEntry done (record entry { draft = step.0 }) ready (draft_ready source (length done) entry.draft step.0 step.1)) step.2
+    (All-push IsReadyEntry done (record entry { draft = step.0 }) ready (draft_ready (source (length done)) (length done) entry.draft step.0 step.1)) step.2
 
 none_ready : All IsReadyEntry []
 none_ready k d inside = absurd (omega arith)
@@ -293,7 +288,7 @@ loads_lab command notes name holding first lab limits reads attaches is = record
 }
 
 pub stops_attaching : (command : Command) (notes : List PlugNote) (name : List ℕ) (holding : Option Holding) (first : LabData) (stop : Stop)
-    → ReadsLab notes name holding (Ok first) → AttachStops holding first stop → Loads command notes name holding (Err stop)
+    → ReadsLab notes name holding (Ok first) → AttachAllStops holding first stop → Loads command notes name holding (Err stop)
 stops_attaching command notes name holding first stop reads stops = record {
   lab_given = reads.given;
   machines_given = stops.given;

@@ -1,4 +1,4 @@
--- The notes of a bench's plugs stand for the bench.
+-- The notes of a bench's plugs stand for the bench. That the bench fits is a premise only since it names the players.
 use Rattle.std.proofs.Common.{◌≡◌, ℕ, List, Option, Result}
 use Rattle.player_core.specs.State.{Lasting}
 use Rattle.player_core.specs.declared.bench.PlugNote.{PlugNote}

@@ -6,7 +6,7 @@ use Rattle.lab_ports.specs.declared.refusal.Refusal.{Refusal}
 use Rattle.lab_ports.specs.Holding.{Holding}
 use Rattle.lab_file.specs.declared.command.Command.TheVariants as commands
 use Rattle.lab_file.specs.Lab.{LabData}
-use Rattle.axlab_core.specs.Loading.{Stop, Missing, Refuses, lab_for, lab_source, machine_source}
+use Rattle.axlab_core.specs.Loading.{Stop, Missing, Refuses, lab_for, file_source, machine_source}
 use Rattle.axlab_core.specs.declared.words.Form.{Form}
 use Rattle.axlab_core.specs.declared.words.Form.TheVariants.{Match}
 use Rattle.axlab_core.specs.declared.status.Status.{Status}
@@ -17,9 +17,9 @@ pub record Holds (form : Form) (players : List Lasting) (name : List ℕ) (holdi
   pub form_is : form ≡ Match
   pub files : Holding
   pub told : holding ≡ Some files
-  pub is : lab_for commands.Match (notes_of players) (lab_source (Some files) [] name) (machine_source (Some files) []) ≡ answer
+  pub is : lab_for commands.Match (notes_of players) (file_source (Some files) [] name) (machine_source (Some files) []) ≡ answer
 
--- it holds a lab whose match keeps the limits
+-- it holds a lab, and the files that its entries name, whose match keeps the limits
 abbrev pub HoldsLab : Form → List Lasting → List ℕ → Option Holding → Type 0
 HoldsLab form players name holding = (lab : LabData) × Holds form players name holding (Ok lab)
 
@@ -27,7 +27,7 @@ HoldsLab form players name holding = (lab : LabData) × Holds form players name 
 abbrev pub HoldsRefused : Form → List Lasting → List ℕ → Option Holding → Refusal → Type 0
 HoldsRefused form players name holding refusal = Holds form players name holding (Err (Refuses refusal))
 
--- it lacks the lab, or the file of an entry before which nothing is refused
+-- it lacks the lab file, or the file of an entry before which nothing is refused
 abbrev pub LacksFile : Form → List Lasting → List ℕ → Option Holding → Type 0
 LacksFile form players name holding = Holds form players name holding (Err Missing)
 

@@ -1,5 +1,5 @@
--- What the reads of a run give, and the lab that they make: the one order in which a lab's faults are told.
-use Rattle.std.specs.Prelude.{◌≡◌, ℕ, ◌+◌, Bool, true, is_some, List, [], ◌∷◌, ◌++◌, length, take, slice_get, Option, Some, None, option_map, Result, Ok, Err}
+-- The lab that the files of a library make, and the one order in which its faults are told.
+use Rattle.std.specs.Prelude.{◌≡◌, ℕ, ◌+◌, true, is_some, List, [], ◌∷◌, ◌++◌, length, take, get_or, Option, Some, None, option_map, Result, Ok, Err}
 use Rattle.player_core.specs.declared.bench.PlugNote.{PlugNote}
 use Rattle.lab_ports.specs.declared.refusal.Refusal.{Refusal}
 use Rattle.lab_ports.specs.Holding.{Holding, file_of}
@@ -8,7 +8,7 @@ use Rattle.strategy_file.specs.declared.draft.Draft.TheVariants.{Ready, FromFile
 use Rattle.lab_file.specs.declared.command.Command.{Command}
 use Rattle.lab_file.specs.declared.lab.Entry.{Entry}
 use Rattle.lab_file.specs.Lab.{LabData}
-use Rattle.lab_file.specs.LabOf.{lab_of}
+use Rattle.lab_file.specs.LabOf.{lab_of, longest_file}
 use Rattle.lab_file.specs.Attached.{draft_with}
 use Rattle.lab_file.specs.Limits.{limits_of}
 
@@ -31,49 +31,49 @@ abbrev pub or_stop : {A : Type 0} → Result A Refusal → Result A Stop
 or_stop (Ok x) = Ok x
 or_stop (Err refusal) = Err (Refuses refusal)
 
--- the bytes of a file as far as they are read: up to 1 MiB and a byte
-abbrev pub front_of : List ℕ → List (List ℕ × List ℕ) → Option (List ℕ)
-front_of name files = option_map (take 1048577) (file_of name files)
+-- the bytes of a file as far as they are read: up to 1 MiB and a byte, so that a longer file shows
+abbrev pub front_of : List ℕ → Holding → Option (List ℕ)
+front_of name files = option_map (take (longest_file + 1)) (file_of name files)
 
--- the lab file, where the library tells what it holds; else what the read gave
-abbrev pub lab_source : Option Holding → List ℕ → List ℕ → Option (List ℕ)
-lab_source None given name = Some given
-lab_source (Some files) given name = front_of name files
+-- a file by its name: what the library holds, where it tells it; else the bytes that the read gave
+abbrev pub file_source : Option Holding → List ℕ → List ℕ → Option (List ℕ)
+file_source None given name = Some given
+file_source (Some files) given name = front_of name files
 
--- a file for the entry at a place, alike; the reads for the entries gave these bytes, one after the other
+-- the file of the entry at a place, where the reads gave these bytes by place
 abbrev pub machine_source : Option Holding → List (List ℕ) → ℕ → List ℕ → Option (List ℕ)
-machine_source None given place name = slice_get given place
-machine_source (Some files) given place name = front_of name files
+machine_source holding given place = file_source holding (get_or given place [])
 
--- the draft of the entry at a place, with its file
-abbrev pub draft_read : (ℕ → List ℕ → Option (List ℕ)) → ℕ → Draft → Result Draft Stop
+-- the draft of the entry at a place, with its file where it names one
+abbrev pub draft_read : (List ℕ → Option (List ℕ)) → ℕ → Draft → Result Draft Stop
 draft_read source place (Ready sheet) = Ok (Ready sheet)
-draft_read source place (FromFile machine) = or_missing (source place machine.file) >>= λ bytes. or_stop (draft_with (place + 1) (FromFile machine) bytes)
+draft_read source place (FromFile machine) = or_missing (source machine.file) >>= λ bytes. or_stop (draft_with (place + 1) (FromFile machine) bytes)
 
 -- these entries, and those behind them with their files, one after the other
 abbrev pub entries_read : (ℕ → List ℕ → Option (List ℕ)) → List Entry → List Entry → Result (List Entry) Stop
 entries_read source done [] = Ok done
 entries_read source done (entry ∷ rest) = do
-  draft ← draft_read source (length done) entry.draft
+  draft ← draft_read (source (length done)) (length done) entry.draft
   entries_read source (done ++ (record entry { draft = draft }) ∷ []) rest
 
 -- the lab that the bytes of the lab file give
-abbrev pub lab_given : List PlugNote → Option (List ℕ) → Result LabData Stop
-lab_given notes found = or_missing found >>= λ bytes. or_stop (lab_of notes bytes)
+abbrev pub lab_read : List PlugNote → Option (List ℕ) → Result LabData Stop
+lab_read notes found = or_missing found >>= λ bytes. or_stop (lab_of notes bytes)
 
 -- the lab of a command: the lab file, then the machine files in the order of the entries, then the limits of the job
 abbrev pub lab_for : Command → List PlugNote → Option (List ℕ) → (ℕ → List ℕ → Option (List ℕ)) → Result LabData Stop
 lab_for command notes lab_bytes source = do
-  lab ← lab_given notes lab_bytes
+  lab ← lab_read notes lab_bytes
   entries ← entries_read source [] lab.entries
   kept ← or_stop (limits_of notes command (record lab { entries = entries }))
   Ok (record lab { entries = entries })
 
--- what the reads of a run over this library make of the lab of this name
+-- over this library the lab of this name comes to this answer: by what the library holds, where it tells it, whatever was given;
+-- else by some bytes that the reads gave
 pub record Loads (command : Command) (notes : List PlugNote) (name : List ℕ) (holding : Option Holding) (answer : Result LabData Stop) : Type 0 where
   pub lab_given : List ℕ
   pub machines_given : List (List ℕ)
-  pub is : lab_for command notes (lab_source holding lab_given name) (machine_source holding machines_given) ≡ answer
+  pub is : lab_for command notes (file_source holding lab_given name) (machine_source holding machines_given) ≡ answer
 
 -- the library tells what it holds
 abbrev pub IsTold : Option Holding → Type 0

@@ -17,7 +17,7 @@ use Rattle.lab_ports.specs.Causes.{Rose}
 use Rattle.lab_ports.specs.Holding.{Holding, Grew, GrewByPart}
 use Rattle.axlab_core.specs.declared.words.Form.{Form}
 use Rattle.axlab_core.specs.declared.words.Form.TheVariants.{Match, Unbuilt, Faulty}
-use Rattle.axlab_core.specs.Loading.{Stop, Missing, Refuses, Loads, IsTold}
+use Rattle.axlab_core.specs.Loading.{Missing, Refuses, Loads, IsTold}
 use Rattle.axlab_core.specs.Report.{match_text}
 use Rattle.axlab_core.specs.Sides.{Turns, MadeTurns}
 
@@ -73,7 +73,7 @@ pub record WrotePart (form : Form) (players : List Lasting) (name : List ℕ) (h
   pub promised : IsPromised form players name holding text
   pub took : GrewByPart before now text
 
--- why a command is refused
+-- why a command is refused: its files are, in the one order; or it isn't built
 abbrev pub WhyRefused : Form → List Lasting → List ℕ → Option Holding → Refusal → Type 0
 WhyRefused Match players name holding refusal = Loads commands.Match (notes_of players) name holding (Err (Refuses refusal))
 WhyRefused Unbuilt players name holding refusal = refusal ≡ NotBuilt

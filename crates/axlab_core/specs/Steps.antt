@@ -1,8 +1,6 @@
 -- How a lab is loaded, read by read.
-use Rattle.std.specs.Prelude.{◌≡◌, ◌⊎◌, ℕ, List, [], ◌∷◌, ◌++◌, length, Option, Some, Result, Ok, Err}
+use Rattle.std.specs.Prelude.{◌≡◌, ◌⊎◌, ℕ, List, [], Option, Result, Ok, Err}
 use Rattle.player_core.specs.declared.bench.PlugNote.{PlugNote}
-use Rattle.lab_ports.specs.declared.library.LibraryError.{LibraryError}
-use Rattle.lab_ports.specs.declared.library.LibraryError.TheVariants as library
 use Rattle.lab_ports.specs.declared.refusal.FileError.{FileError}
 use Rattle.lab_ports.specs.declared.refusal.FileError.TheVariants as file
 use Rattle.lab_ports.specs.Holding.{Holding}
@@ -13,7 +11,7 @@ use Rattle.lab_file.specs.Lab.{LabData, entry_at}
 use Rattle.lab_file.specs.Attached.{set_draft}
 use Rattle.axlab_core.specs.declared.load.LoadError.{LoadError}
 use Rattle.axlab_core.specs.declared.load.LoadError.TheVariants.{Unread, Refused, NoMemory}
-use Rattle.axlab_core.specs.Loading.{Stop, Missing, Refuses, IsTold, lab_source, machine_source, lab_given, draft_read, entries_read}
+use Rattle.axlab_core.specs.Loading.{Stop, Missing, Refuses, file_source, machine_source, lab_read, draft_read, entries_read}
 
 -- a file's error
 abbrev pub of_file : FileError → LoadError
@@ -43,21 +41,19 @@ IsReadyEntry entry = IsReadyDraft entry.draft
 -- the read of the lab file made this of it
 pub record ReadsLab (notes : List PlugNote) (name : List ℕ) (holding : Option Holding) (answer : Result LabData Stop) : Type 0 where
   pub given : List ℕ
-  pub is : lab_given notes (lab_source holding given name) ≡ answer
+  pub is : lab_read notes (file_source holding given name) ≡ answer
 
--- the entry at a place has its sheet now; the read for it gave these bytes
+-- the entry at a place has its sheet now; the read for it, if there is one, gave these bytes
 pub record Attaches (holding : Option Holding) (place : ℕ) (old new : LabData) : Type 0 where
   pub bytes : List ℕ
   pub draft : Draft
-  pub read : (given more : List (List ℕ)) → length given ≡ place →
-      draft_read (machine_source holding (given ++ bytes ∷ more)) place (entry_at old.entries place).draft ≡ Ok draft
+  pub read : draft_read (file_source holding bytes) place (entry_at old.entries place).draft ≡ Ok draft
   pub set : new ≡ record old { entries = set_draft old.entries place draft }
 
--- the entry at a place has none
-pub record StepStops (holding : Option Holding) (place : ℕ) (old : LabData) (stop : Stop) : Type 0 where
+-- the entry at a place can have none, for this reason
+pub record AttachStops (holding : Option Holding) (place : ℕ) (old : LabData) (stop : Stop) : Type 0 where
   pub bytes : List ℕ
-  pub read : (given more : List (List ℕ)) → length given ≡ place →
-      draft_read (machine_source holding (given ++ bytes ∷ more)) place (entry_at old.entries place).draft ≡ Err stop
+  pub read : draft_read (file_source holding bytes) place (entry_at old.entries place).draft ≡ Err stop
 
 -- all entries have their sheets now
 pub record AttachesAll (holding : Option Holding) (old new : LabData) : Type 0 where
@@ -65,7 +61,7 @@ pub record AttachesAll (holding : Option Holding) (old new : LabData) : Type 0 w
   pub is : entries_read (machine_source holding given) [] old.entries ≡ Ok new.entries
   pub rest : new ≡ record old { entries = new.entries }
 
--- some entry has none
-pub record AttachStops (holding : Option Holding) (old : LabData) (stop : Stop) : Type 0 where
+-- some entry can have none, for this reason; those before it can
+pub record AttachAllStops (holding : Option Holding) (old : LabData) (stop : Stop) : Type 0 where
   pub given : List (List ℕ)
   pub is : entries_read (machine_source holding given) [] old.entries ≡ Err stop

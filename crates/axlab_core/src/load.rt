@@ -4,7 +4,7 @@ ghost use Rattle.lab_ports.specs.Causes.{Rose};
 ghost use Rattle.lab_ports.specs.Holding.{IsFront, IsMissing};
 ghost use Rattle.lab_file.specs.Limits.{limits_of};
 ghost use Rattle.axlab_core.specs.Loading.{Loads, IsTold};
-ghost use Rattle.axlab_core.specs.Steps.{Attaches, AttachesAll, AttachStops, Explains, IsReadyEntry, ReadFails, ReadsLab, StepStops};
+ghost use Rattle.axlab_core.specs.Steps.{Attaches, AttachesAll, AttachStops, AttachAllStops, Explains, IsReadyEntry, ReadFails, ReadsLab};
 
 use lab_file::{Command, Lab, read_lab};
 use lab_ports::{FileError, Library, LibraryError, Refusal};
@@ -39,7 +39,7 @@ impl From<FileError> for LoadError {
     }
 }
 
-// The bytes of a file, up to 1 MiB and one.
+// The bytes of a file, up to 1 MiB and a byte.
 fn read_file<L: Library>(alloc: Global, name: &str, files: &mut L) -> Result<Vec<u8>, LoadError>
     ensures front { IfOk result (λ bytes. IsFront (L.holding files.old) name.now LONGEST_FILE bytes.items) }
     ensures fails { IfErr result (λ error. ReadFails error (Rose (L.faults files.old) (L.faults files.new)) (IsMissing (L.holding files.old) name.now)) }
@@ -80,7 +80,7 @@ fn attach_file<L: Library>(
 ) -> Result<(), LoadError>
     requires inside { place < length lab.old.entries }
     ensures attaches { OnOk result (Attaches (L.holding files.old) place lab.old lab.new) }
-    ensures stops { IfErr result (λ error. Explains error (Rose (L.faults files.old) (L.faults files.new)) (IsTold (L.holding files.old)) (StepStops (L.holding files.old) place lab.old)) }
+    ensures stops { IfErr result (λ error. Explains error (Rose (L.faults files.old) (L.faults files.new)) (IsTold (L.holding files.old)) (AttachStops (L.holding files.old) place lab.old)) }
     ensures held { L.holding files.new ≡ L.holding files.old }
     ensures later { L.faults files.old ≤ L.faults files.new }
 {
@@ -95,7 +95,7 @@ fn attach_file<L: Library>(
 // Gives each entry its rows that stand in a file, in file order.
 fn attach_files<L: Library>(alloc: Global, lab: &mut Lab, files: &mut L) -> Result<(), LoadError>
     ensures attaches { OnOk result (AttachesAll (L.holding files.old) lab.old lab.new) }
-    ensures stops { IfErr result (λ error. Explains error (Rose (L.faults files.old) (L.faults files.new)) (IsTold (L.holding files.old)) (AttachStops (L.holding files.old) lab.old)) }
+    ensures stops { IfErr result (λ error. Explains error (Rose (L.faults files.old) (L.faults files.new)) (IsTold (L.holding files.old)) (AttachAllStops (L.holding files.old) lab.old)) }
     ensures held { L.holding files.new ≡ L.holding files.old }
     ensures later { L.faults files.old ≤ L.faults files.new }
 {

@@ -15,14 +15,14 @@ returns-in_err-bytes-clause-stops g c =
     let is = ap (λ (l : LabData). (entry_at l.entries c.args.place).draft) (sym c.lab.view_is) ∙ (sym (ap (λ (e : Entry). e.draft) c.at.ensures) ∙ c.in-FromFile.is) in
     let p = err_from_is_err_and c.from_residual.result c.from_residual.ensures.1 in
     rw p.1 (rw p.2 (explains_read c.in_err-bytes.field-0.0 _ _ c.text.result.now _ c.in_err-bytes.ensures.fails
-      (stops_missing _ c.args.place c.args.lab.now c.in-FromFile.machine c.text.result.now is c.text.ensures.value)))
+    (stops_missing _ c.args.place c.args.lab.now c.in-FromFile.machine c.text.result.now is c.text.ensures.value)))
 
 pub returns-in_err-attach-clause-stops : goal.returns-in_err-attach-clause-stops
 returns-in_err-attach-clause-stops g c =
     let is = ap (λ (l : LabData). (entry_at l.entries c.args.place).draft) (sym c.lab.view_is) ∙ (sym (ap (λ (e : Entry). e.draft) c.at.ensures) ∙ c.in-FromFile.is) in
     let p = err_from_is_err_and c.from_residual-in_err-attach.result c.from_residual-in_err-attach.ensures.1 in
     rw p.1 (rw p.2 (explains_file _ c.in_err-attach.field-0.0 _ _ _ c.in_err-attach.ensures.refused
-      (λ refusal. stops_refused _ c.args.place c.args.lab.now c.in-FromFile.machine c.text.result.now c.in_ok-bytes.bytes.items c.as_slice.result.now refusal is c.text.ensures.value c.in_ok-bytes.ensures.front c.as_slice.ensures.value)))
+    (λ refusal. stops_refused _ c.args.place c.args.lab.now c.in-FromFile.machine c.text.result.now c.in_ok-bytes.bytes.items c.as_slice.result.now refusal is c.text.ensures.value c.in_ok-bytes.ensures.front c.as_slice.ensures.value)))
 
 pub returns-clause-attaches : goal.returns-clause-attaches
 returns-clause-attaches g c =

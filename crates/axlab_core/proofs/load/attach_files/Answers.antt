@@ -19,8 +19,8 @@ pub returns-in_err-attach_file-clause-stops : goal.returns-in_err-attach_file-cl
 returns-in_err-attach_file-clause-stops g c =
     let p = err_from_is_err_and c.from_residual.result c.from_residual.ensures.1 in
     rw p.1 (rw p.2 (explains_more c.in_err-attach_file.field-0.0 _ _ _ _ _ (rw c.loop-place.invariant.held at c.in_err-attach_file.ensures.stops)
-      (rose_earlier _ _ _ c.loop-place.invariant.later)
-      (λ stop stops. stopped _ _ _ c.loop-place.place stop (omega (arith, c.loop-place.invariant.far.as_many, c.loop-place.invariant.last, c.loop-place-test.true)) c.loop-place.invariant.far stops)))
+    (rose_earlier _ _ _ c.loop-place.invariant.later)
+    (λ stop stops. stopped _ _ _ c.loop-place.place stop (omega (arith, c.loop-place.invariant.far.as_many, c.loop-place.invariant.last, c.loop-place-test.true)) c.loop-place.invariant.far stops)))
 
 pub returns-in_err-attach_file-clause-held : goal.returns-in_err-attach_file-clause-held
 returns-in_err-attach_file-clause-held g c = c.in_err-attach_file.ensures.held ∙ c.loop-place.invariant.held
