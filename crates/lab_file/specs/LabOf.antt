@@ -75,7 +75,7 @@ are_tables (item found rest) = is_some (as_table found) && are_tables rest
 unfoldable pub entries_of : List PlugNote → FlipRate → Items → Result (List Entry) Refusal
 entries_of notes noise items =
     if are_tables items then
-      (if nat_le 1 (item_count items) && nat_le (item_count items) 64 then entries_from notes noise [] items else Err (OutOfRange (top key.Entry)))
+    (if nat_le 1 (item_count items) && nat_le (item_count items) 64 then entries_from notes noise [] items else Err (OutOfRange (top key.Entry)))
     else Err (WrongType (top key.Entry))
 
 unfoldable pub entries_at : List PlugNote → FlipRate → Members → Result (List Entry) Refusal

@@ -14,7 +14,7 @@ use Rattle.lab_file.specs.Sure.{entry_is_sure}
 abbrev pub match_limits : List PlugNote → List Entry → MatchJob → Result (Unit {0}) Refusal
 match_limits notes entries job =
     if entry_is_sure notes (entry_at entries job.left) && entry_is_sure notes (entry_at entries job.right) then
-      (if nat_lt 1000000 job.turns then Err TooManyTurns else Ok tt)
+    (if nat_lt 1000000 job.turns then Err TooManyTurns else Ok tt)
     else Err NotBuilt
 
 abbrev pub job_limits : List PlugNote → List Entry → Option MatchJob → Result (Unit {0}) Refusal
