@@ -1,0 +1,46 @@
+//! What lies between two whole ends.
+ghost use Rattle.std.specs.Prelude.{◌≡◌};
+
+use std::marker::Model;
+
+/// What lies between two whole ends, in a unit: 10^-12 for scores, 10^-9 for chances. `lo` is at most
+/// `hi`; where they are equal the span is a point. Contracts see the two ends.
+#[derive(Clone, Copy, Debug, PartialEq, Eq)]
+pub struct Span {
+    pub lo: i128,
+    pub hi: i128,
+}
+
+impl Model for Span {
+    ghost use Rattle.std.specs.Prelude.{◌≤ℤ◌};
+    ghost use Rattle.fixed_span.specs.Span.{Ends};
+
+    ghost Value = { Ends };
+
+    ghost view = { λ s. record { lo = s.lo; hi = s.hi } };
+
+    ghost invariant = { λ s. s.lo ≤ℤ s.hi };
+
+    ghost inverse = { λ v. record { lo = v.lo; hi = v.hi } };
+}
+
+impl Span {
+    ghost use Rattle.std.specs.Prelude.{◌≤ℤ◌};
+    ghost use Rattle.fixed_span.specs.Span.{point};
+
+    /// The point at a number.
+    pub fn point(v: i128) -> Span
+        ensures { result ≡ point v }
+    {
+        Span { lo: v, hi: v }
+    }
+
+    /// Both ends, the lower first.
+    pub fn ends(&self) -> (i128, i128)
+        ensures lo { result.0 ≡ self.now.lo }
+        ensures hi { result.1 ≡ self.now.hi }
+        ensures ordered { result.0 ≤ℤ result.1 }
+    {
+        (self.lo, self.hi)
+    }
+}
