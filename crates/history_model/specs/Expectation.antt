@@ -123,3 +123,14 @@ abbrev pub SidesAreAlike : Type 0
 SidesAreAlike =
     (a : Automaton) (na : FlipRate) (b : Automaton) (nb : FlipRate) (game : Payoffs) (n u v : ℕ) →
     expected_by_rows b nb a na game n v u ≡ expected_by_rows a na b nb (turned_game game) n u v
+
+-- the same denominator, and the same weight after each history
+pub record ChooseAlike (a c : Chooser) : Type 0 where
+  pub den : a.den ≡ c.den
+  pub weight : (history : History) → a.weight history ≡ c.weight history
+
+-- the law: what is expected rests on nothing but the weights after each history
+abbrev pub WeightsDecide : Type 0
+WeightsDecide =
+    (a c : Chooser) (na : FlipRate) (b d : Chooser) (nb : FlipRate) (game : Payoffs) (offset n : ℕ) → ChooseAlike a c → ChooseAlike b d →
+    expectation a na b nb game offset n ≡ expectation c na d nb game offset n

@@ -1,5 +1,5 @@
 //! Laws about the definitions: the contract of each function is one law, and its body does nothing.
-ghost use Rattle.history_model.specs.Expectation.{AutomataAreWeighed, HistoriesAgreeWithRows, MassesAddUp, OffsetLowers, SidesAreAlike};
+ghost use Rattle.history_model.specs.Expectation.{AutomataAreWeighed, HistoriesAgreeWithRows, MassesAddUp, OffsetLowers, SidesAreAlike, WeightsDecide};
 ghost use Rattle.history_model.specs.Path.{PathIsOne};
 ghost use Rattle.history_model.specs.Tally.{CountsArePaid};
 ghost use Rattle.history_model.specs.Tree.{PlanIsFollowed};
@@ -42,4 +42,9 @@ pub fn sides_are_alike()
 /// The tree of a plan intends the plan's move after each history.
 pub fn plan_is_followed()
     ensures { PlanIsFollowed }
+{}
+
+/// Players that choose alike after each history expect alike.
+pub fn weights_decide()
+    ensures { WeightsDecide }
 {}

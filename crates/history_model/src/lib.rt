@@ -17,7 +17,7 @@ pub use game::Game;
 pub use grid::{Grid, GridRow};
 pub use laws::{
     automata_are_weighed, counts_are_paid, histories_agree_with_rows, masses_add_up, offset_lowers,
-    path_is_one, plan_is_followed, sides_are_alike,
+    path_is_one, plan_is_followed, sides_are_alike, weights_decide,
 };
 pub use moves::{Move, Play};
 pub use name::Name;
