@@ -1,5 +1,5 @@
 -- Numbers and points in texts.
-use Rattle.std.specs.Prelude.{codes, ◌≡◌, ℕ, ◌+◌, ◌*◌, ◌/◌, ◌%◌, ◌^◌, ◌-◌, ◌<◌, ◌≤◌, ◌&&◌, ◌||◌, ◌==◌, Bool, true, false, not, nat_lt, nat_le, List, [], ◌∷◌, ◌++◌, length, take, drop, replicate, Option, Some, None, if◌then◌else◌, slice_index}
+use Rattle.std.specs.Prelude.{ℕ, ◌+◌, ◌*◌, ◌/◌, ◌%◌, ◌^◌, ◌-◌, ◌&&◌, ◌||◌, ◌==◌, Bool, false, not, nat_lt, nat_le, List, [], ◌∷◌, ◌++◌, length, take, drop, replicate, Option, Some, None, if◌then◌else◌}
 use Rattle.std.specs.Fmt.{decimal}
 use Rattle.texts.specs.Cuts.{before, behind}
 
@@ -20,13 +20,13 @@ value_from n [] = Some n
 value_from n (c ∷ cs) = if is_digit c && nat_lt n (10 ^ 37) then value_from (n * 10 + (c - 48)) cs else None
 
 -- not empty, and 0 stands in front only of nothing
-abbrev pub is_front : List ℕ → Bool
-is_front [] = false
-is_front (c ∷ cs) = not (c == 48) || length cs == 0
+abbrev pub is_well_led : List ℕ → Bool
+is_well_led [] = false
+is_well_led (c ∷ cs) = not (c == 48) || length cs == 0
 
 -- the number below 10^38 that a text is the decimal text of
 unfoldable pub number_of : List ℕ → Option ℕ
-number_of text = if is_front text then value_from 0 text else None
+number_of text = if is_well_led text then value_from 0 text else None
 
 infixl 10 ◌>>=◌
 abbrev pub ◌>>=◌ : {A B : Type 0} → Option A → (A → Option B) → Option B
@@ -34,8 +34,8 @@ abbrev pub ◌>>=◌ : {A B : Type 0} → Option A → (A → Option B) → Opti
 None >>= f = None
 
 -- digits that fill a width
-abbrev pub part_of : ℕ → List ℕ → Option ℕ
-part_of width text = if length text == width then value_from 0 text else None
+abbrev pub value_of_width : ℕ → List ℕ → Option ℕ
+value_of_width width text = if length text == width then value_from 0 text else None
 
 abbrev pub units_of : ℕ → ℕ → ℕ → Option ℕ
 units_of decimals whole part =
@@ -45,28 +45,6 @@ units_of decimals whole part =
 unfoldable pub point_at : ℕ → List ℕ → Option (ℕ × List ℕ)
 point_at decimals text = do
   whole ← number_of (before 46 text)
-  part ← part_of decimals (take decimals (behind 46 text))
+  part ← value_of_width decimals (take decimals (behind 46 text))
   units ← units_of decimals whole part
   Some (units, drop decimals (behind 46 text))
-
--- a span: a point, or two with `..` between
-abbrev pub span_text : ℕ → ℕ → ℕ → List ℕ
-span_text decimals lo hi = if lo == hi then point_text decimals lo else point_text decimals lo ++ (46 ∷ 46 ∷ point_text decimals hi)
-
-abbrev pub ordered : ℕ → ℕ × List ℕ → Option (ℕ × ℕ)
-ordered lo high = if length high.1 == 0 && nat_lt lo high.0 then Some (lo, high.0) else None
-
-abbrev pub high_of : ℕ → ℕ → List ℕ → Option (ℕ × ℕ)
-high_of decimals lo [] = Some (lo, lo)
-high_of decimals lo (b ∷ []) = None
-high_of decimals lo (b ∷ c ∷ more) = if b == 46 && c == 46 then (point_at decimals more >>= ordered lo) else None
-
-unfoldable pub ends_of : ℕ → List ℕ → Option (ℕ × ℕ)
-ends_of decimals text = do
-  low ← point_at decimals text
-  high_of decimals low.0 low.1
-
--- the ends of a span that has a text
-pub record AreEnds (lo hi : ℕ) : Type 0 where
-  pub order : lo ≤ hi
-  pub small : hi ≤ 10 ^ 37

@@ -16,7 +16,7 @@ pub fn cut(text: &[u8], byte: u8) -> (&[u8], &[u8])
 }
 
 /// The first line, without its LF, and what stands behind it.
-pub fn line_at(text: &[u8]) -> Option<(&[u8], &[u8])>
+pub fn first_line(text: &[u8]) -> Option<(&[u8], &[u8])>
     ensures line { IfSome result (λ x. pieces text.now ≡ x.0.now ∷ pieces x.1.now) }
     ensures len { IfSome result (λ x. length x.0.now + 1 + length x.1.now ≡ length text.now) }
     ensures last { IfNone result (pieces text.now ≡ text.now ∷ []) }

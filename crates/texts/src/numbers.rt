@@ -1,5 +1,5 @@
 ghost use Rattle.std.specs.Prelude.{◌≡◌};
-ghost use Rattle.texts.specs.Numbers.{is_digit, is_front, value_from, number_of};
+ghost use Rattle.texts.specs.Numbers.{is_digit, is_well_led, value_from, number_of};
 
 fn is_digit(b: u8) -> bool
     ensures { result ≡ is_digit b }
@@ -21,8 +21,8 @@ pub fn value_of(text: &[u8]) -> Option<u128>
     Some(n)
 }
 
-fn is_front(text: &[u8]) -> bool
-    ensures { result ≡ is_front text.now }
+fn is_well_led(text: &[u8]) -> bool
+    ensures { result ≡ is_well_led text.now }
 {
     match text {
         [] => false,
@@ -35,7 +35,7 @@ fn is_front(text: &[u8]) -> bool
 pub fn number_of(text: &[u8]) -> Option<u128>
     ensures { result ≡ number_of text.now }
 {
-    if !is_front(text) {
+    if !is_well_led(text) {
         return None;
     }
     value_of(text)
