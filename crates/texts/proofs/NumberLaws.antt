@@ -2,10 +2,11 @@
 use Rattle.std.proofs.Common.{◌≡◌, ℕ, zero, suc, ◌+◌, ◌*◌, ◌/◌, ◌%◌, ◌-◌, ◌^◌, ◌<◌, ◌≤◌, Bool, true, false, cond, eqb, ltb, ◌&&◌, not, List, [], ◌∷◌, ◌++◌, length, Option, Some, None, refl, sym, ap, subst, ◌∙◌, append_assoc, arith, inl, inr, ◌⊎◌}
 use Rattle.std.specs.Fmt.{decimal}
 use Rattle.std.proofs.Math.Nat.{mul-le-mul_right}
+use Rattle.std.proofs.lemmas.Bool.{ltb-true}
 use Rattle.std.proofs.lemmas.Bool.Decides.{nat_tests}
 use Rattle.std.proofs.lemmas.List.{append-nil}
 use Rattle.std.proofs.lemmas.Fmt.{decimal_digit, decimal_step_wide, decimal_by_steps_wide}
-use Rattle.texts.specs.Numbers.{is_digit, is_well_led, value_from, number_of}
+use Rattle.texts.specs.Numbers.{is_digit, is_well_led, value_from, number_of, small, ◌>>=◌, NumbersAreExact}
 use Rattle.texts.specs.Cuts.{lacks}
 
 -- the test of a step that went on
@@ -15,6 +16,11 @@ went false x y e = absurd cc
 
 pub some_is : {A : Type 0} (x y : A) → Some x ≡ Some y → x ≡ y
 some_is x y e = cc
+
+-- the value of a step that gave one
+pub bind_some : {A B : Type 0} (r : Option A) (f : A → Option B) (y : B) → (r >>= f) ≡ Some y → (x : A) × (r ≡ Some x) × (f x ≡ Some y)
+bind_some (Some x) f y e = (x, refl, e)
+bind_some None f y e = absurd cc
 
 is_within : (n c : ℕ) → (is_digit c && ltb n (10 ^ 37)) ≡ true → (48 ≤ c) × (c ≤ 57) × (n < 10 ^ 37)
 is_within n c h = grind (arith, nat_tests)
@@ -147,3 +153,27 @@ value_below (c ∷ cs) n m e =
     let step : (n * 10 + (c - 48) + 1) * 10 ^ length cs ≤ ((n + 1) * 10) * 10 ^ length cs = mul-le-mul_right (10 ^ length cs) (omega (arith, h.0, h.1)) in
     let power : 10 ^ suc (length cs) ≡ 10 * 10 ^ length cs = omega arith in
     rw power (omega (arith, more, step))
+
+-- ---- numbers below 2^64
+
+pub small_takes : (text : List ℕ) (n : ℕ) → small text ≡ Some n → (text ≡ decimal n) × (n < 2 ^ 64)
+unfolding small
+small_takes text n e =
+    let b = bind_some (number_of text) (λ m. cond (ltb m (2 ^ 64)) (Some m) None) n e in
+    let w = went (ltb b.0 (2 ^ 64)) (Some b.0) n b.2 in
+    let same : b.0 ≡ n = some_is b.0 n w.1 in
+    let t = number_takes text b.0 b.1 in
+    subst (λ (k : ℕ). (text ≡ decimal k) × (k < 2 ^ 64)) same (t.0, ltb-true b.0 (2 ^ 64) w.0)
+
+pub small_again : (n : ℕ) → n < 2 ^ 64 → small (decimal n) ≡ Some n
+unfolding small
+small_again n h =
+    let test : ltb n (2 ^ 64) ≡ true = grind (arith, nat_tests) in
+    rw (number_again n (omega arith), test) refl
+
+pub numbers_are_exact_lem : NumbersAreExact
+numbers_are_exact_lem = record {
+  numbers = λ text n. (number_takes text n, λ is. ap number_of is.0 ∙ number_again n is.1);
+  small_numbers = λ text n. (small_takes text n, λ is. ap small is.0 ∙ small_again n is.1);
+  digits = decimal_lacks;
+}

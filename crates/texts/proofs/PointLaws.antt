@@ -1,4 +1,4 @@
--- A point is read exactly from its text, whatever follows, and so is a span.
+-- A point is read exactly from its text, whatever follows.
 use Rattle.std.proofs.Common.{◌≡◌, ℕ, zero, suc, ◌+◌, ◌*◌, ◌/◌, ◌%◌, ◌-◌, ◌^◌, ◌<◌, ◌≤◌, Bool, true, false, cond, eqb, ltb, not, List, [], ◌∷◌, ◌++◌, length, take, drop, replicate, Option, Some, None, refl, sym, ap, subst, ◌∙◌, append_assoc, arith, inl, inr, ◌⊎◌}
 use Rattle.std.specs.Fmt.{decimal}
 use Rattle.std.proofs.lemmas.Bool.{eqb-true, ltb-false, le-ltb}
@@ -8,14 +8,10 @@ use Rattle.std.proofs.lemmas.Fmt.{decimal_digit, length-decimal-le_wide}
 use Rattle.std.proofs.lemmas.Nat.{div-mul-add, mod-mul-add}
 use Rattle.std.proofs.Math.Nat.{div-le_self, div-add-mod, mod-lt, one-le-pow, le-div_iff_mul-le, div-mul-le_self}
 use Rattle.texts.specs.Cuts.{before, behind, lacks}
-use Rattle.texts.specs.Numbers.{value_from, number_of, zero_padded, point_text, ◌>>=◌, value_of_width, units_of, point_at}
+use Rattle.texts.specs.Numbers.{value_from, number_of, zero_padded, point_text, ◌>>=◌, value_of_width, units_of, point_at, PointsAreExact}
 use Rattle.texts.proofs.CutLaws.{before_at, behind_at, cut_back, lacks_append}
+pub use Rattle.texts.proofs.NumberLaws.{bind_some}
 use Rattle.texts.proofs.NumberLaws.{went, some_is, number_takes, number_again, value_again, value_of_one, value_lacks, decimal_lacks, value_below, from_one}
-
--- the value of a step that gave one
-pub bind_some : {A B : Type 0} (r : Option A) (f : A → Option B) (y : B) → (r >>= f) ≡ Some y → (x : A) × (r ≡ Some x) × (f x ≡ Some y)
-bind_some (Some x) f y e = (x, refl, e)
-bind_some None f y e = absurd cc
 
 kept : {A : Type 0} (b : Bool) (x : Option A) (y : A) → cond b None x ≡ Some y → (b ≡ false) × (x ≡ Some y)
 kept true x y e = absurd cc
@@ -168,3 +164,9 @@ point_lacks b d v h small =
     let dot : not (eqb 46 b) ≡ true = grind (arith, nat_tests) in
     let rest : lacks b (46 ∷ zero_padded d (decimal (v % 10 ^ d))) ≡ true = rw dot (padded_lacks b d (v % 10 ^ d) other (omega (arith, div-add-mod v (10 ^ d)))) in
     lacks_append b (decimal (v / 10 ^ d)) (46 ∷ zero_padded d (decimal (v % 10 ^ d))) (decimal_lacks b (v / 10 ^ d) other (omega (arith, div-le_self v (10 ^ d)))) rest
+
+pub points_are_exact_lem : PointsAreExact
+points_are_exact_lem = record {
+  points = λ decimals text units rest pos few. (point_takes decimals text units rest pos, λ is. ap (point_at decimals) is.0 ∙ point_again decimals units rest pos few is.1);
+  digits = point_lacks;
+}
