@@ -1,5 +1,5 @@
 //! What lies between two whole ends.
-ghost use Rattle.std.specs.Prelude.{◌≡◌};
+ghost use Rattle.std.specs.Prelude.{◌≡◌, ◌^◌, pos, neg_ℤ, ◌+ℤ◌, ◌≤ℤ◌};
 
 use std::marker::Model;
 
@@ -24,9 +24,16 @@ impl Model for Span {
     ghost inverse = { λ v. record { lo = v.lo; hi = v.hi } };
 }
 
+fn sum_of(a: i128, b: i128) -> i128
+    requires low { neg_ℤ (pos (10 ^ 37)) ≤ℤ (a +ℤ b) }
+    requires high { (a +ℤ b) ≤ℤ pos (10 ^ 37) }
+    ensures { result ≡ a +ℤ b }
+{
+    a + b
+}
+
 impl Span {
-    ghost use Rattle.std.specs.Prelude.{◌≤ℤ◌};
-    ghost use Rattle.fixed_span.specs.Span.{point};
+    ghost use Rattle.fixed_span.specs.Span.{point, add, IsSmall};
 
     /// The point at a number.
     pub fn point(v: i128) -> Span
@@ -42,5 +49,21 @@ impl Span {
         ensures ordered { result.0 ≤ℤ result.1 }
     {
         (self.lo, self.hi)
+    }
+
+    /// The sums of the ends, which hold the sum of any two numbers that the spans hold. All ends and
+    /// both sums are from -10^37 to 10^37.
+    pub fn add(self, other: Span) -> Span
+        requires first { IsSmall self }
+        requires second { IsSmall other }
+        requires sums { IsSmall (add self other) }
+        ensures { result ≡ add self other }
+    {
+        let (lo, hi) = self.ends();
+        let (other_lo, other_hi) = other.ends();
+        Span {
+            lo: sum_of(lo, other_lo),
+            hi: sum_of(hi, other_hi),
+        }
     }
 }
