@@ -1,13 +1,12 @@
 -- What reading answers, line by line.
-use Rattle.std.proofs.Common.{◌≡◌, ◌≢◌, ℕ, zero, suc, ◌+◌, ◌<◌, ◌≤◌, Bool, true, false, cond, eqb, ◌&&◌, not, List, [], ◌∷◌, ◌++◌, length, get_or, take, drop, add-one, Option, Some, None, Result, Ok, Err, refl, sym, ap, subst, ◌∙◌, append_assoc, arith, rules}
+use Rattle.std.proofs.Common.{◌≡◌, ◌≢◌, ℕ, suc, ◌+◌, ◌<◌, ◌≤◌, Bool, true, false, cond, eqb, ◌&&◌, not, List, [], ◌∷◌, ◌++◌, length, get_or, take, drop, add-one, Option, Some, None, Result, Ok, Err, refl, sym, ap, subst, ◌∙◌, append_assoc, arith}
 use Rattle.std.proofs.lemmas.Bool.{eqb-true}
 use Rattle.std.proofs.lemmas.Bool.Decides.{nat_tests}
 use Rattle.std.proofs.lemmas.List.{append-nil, nil_from_length, take_more, take-append-drop, take_all}
 use Rattle.std.proofs.Math.Seq.{drop-cons}
-use Rattle.texts.specs.Cuts.{before, behind, lacks}
-use Rattle.texts.specs.Numbers.{◌>>=◌}
-use Rattle.texts.specs.Grammar.{Grammar, run, text_of, Reads, IsFirstBad, onto_first, pieces, step, or_bad, read_on, IsExact}
-use Rattle.texts.proofs.CutLaws.{both_true, lacks_append, before_at, behind_at, before_all}
+use Rattle.texts.specs.Cuts.{before, lacks}
+use Rattle.texts.specs.Grammar.{Grammar, run, text_of, Reads, IsFirstBad, onto_first, pieces, step, or_bad_line, read_on, IsExact}
+use Rattle.texts.proofs.CutLaws.{both_true, lacks_append, before_at}
 use Rattle.texts.proofs.NumberLaws.{went, some_is}
 use Rattle.texts.proofs.PointLaws.{bind_some}
 
@@ -96,7 +95,7 @@ no_line a b y h e = lacks_tail b y (ap (lacks 10) (sym e) ∙ h)
 -- ---- one line
 
 pub read_line : {S I : Type 0} (g : Grammar S I) (line_of : List ℕ → Option I) (s : S) (k : ℕ) (line : List ℕ) (ps : List (List ℕ)) → IsSome ps
-    → read_on g line_of s k (line ∷ ps) ≡ or_bad k (step g line_of s line) (λ s. read_on g line_of s (k + 1) ps)
+    → read_on g line_of s k (line ∷ ps) ≡ or_bad_line k (step g line_of s line) (λ s. read_on g line_of s (k + 1) ps)
 read_line g line_of s k line [] h = absurd h
 read_line g line_of s k line (p ∷ ps) h = refl
 
@@ -119,9 +118,9 @@ step_again g line_of exact s i is allowed = rw (exact.again i is, allowed) refl
 
 -- ---- all lines
 
-or_bad_ok : {S : Type 0} (k : ℕ) (r : Option S) (f : S → Result S ℕ) (end : S) → or_bad k r f ≡ Ok end → (s : S) × (r ≡ Some s) × (f s ≡ Ok end)
-or_bad_ok k None f end e = absurd cc
-or_bad_ok k (Some s) f end e = (s, refl, e)
+or_bad_line_ok : {S : Type 0} (k : ℕ) (r : Option S) (f : S → Result S ℕ) (end : S) → or_bad_line k r f ≡ Ok end → (s : S) × (r ≡ Some s) × (f s ≡ Ok end)
+or_bad_line_ok k None f end e = absurd cc
+or_bad_line_ok k (Some s) f end e = (s, refl, e)
 
 ended_ok : {S : Type 0} (t : Bool) (s end : S) (k : ℕ) → cond t (Ok s) (Err k) ≡ Ok end → (t ≡ true) × (s ≡ end)
 ended_ok true s end k e = (refl, cc)
@@ -151,7 +150,7 @@ read_takes_on : {S I : Type 0} (g : Grammar S I) (line_of : List ℕ → Option 
 read_takes_on g line_of exact [] s end k e = absurd (no_ok k end e)
 read_takes_on g line_of exact (last ∷ []) s end k e = read_last g s end last k e
 read_takes_on g line_of exact (line ∷ piece ∷ more) s end k e =
-    let o = or_bad_ok k (step g line_of s line) (λ s. read_on g line_of s (k + 1) (piece ∷ more)) end e in
+    let o = or_bad_line_ok k (step g line_of s line) (λ s. read_on g line_of s (k + 1) (piece ∷ more)) end e in
     add_line g s o.0 end line (joined (piece ∷ more)) (step_takes g line_of exact s line o.0 o.1) (read_takes_on g line_of exact (piece ∷ more) o.0 end (k + 1) o.2)
 
 -- What is read is lines, each allowed by those before it.
@@ -176,7 +175,7 @@ read_front g line_of exact (i ∷ is) s state rest k e =
     let cut : pieces (text_of g (i ∷ is) ++ rest) ≡ g.text i ∷ pieces (text_of g is ++ rest) = ap pieces regroup ∙ pieces_line (g.text i) (text_of g is ++ rest) (exact.one_line i r.0) in
     let first : read_on g line_of s k (g.text i ∷ pieces (text_of g is ++ rest)) ≡ read_on g line_of (g.after s i) (k + 1) (pieces (text_of g is ++ rest)) =
     read_line g line_of s k (g.text i) (pieces (text_of g is ++ rest)) (pieces_some (text_of g is ++ rest))
-    ∙ ap (λ x. or_bad k x (λ s. read_on g line_of s (k + 1) (pieces (text_of g is ++ rest)))) (step_again g line_of exact s i r.0 r.1) in
+    ∙ ap (λ x. or_bad_line k x (λ s. read_on g line_of s (k + 1) (pieces (text_of g is ++ rest)))) (step_again g line_of exact s i r.0 r.1) in
     let count : k + 1 + length is ≡ k + length (i ∷ is) = omega arith in
     ap (read_on g line_of s k) cut ∙ first ∙ read_front g line_of exact is (g.after s i) state rest (k + 1) r.2 ∙ ap (λ (n : ℕ). read_on g line_of state n (pieces rest)) count
 
@@ -243,7 +242,7 @@ none_some (Some y) x n e = absurd cc
 
 line_bad : {S I : Type 0} (g : Grammar S I) (line_of : List ℕ → Option I) → IsExact g line_of → (s : S) (line : List ℕ) (ps : List (List ℕ)) (k j : ℕ) (r : Option S)
     → lacks 10 line ≡ true → r ≡ step g line_of s line → ((to : S) → read_on g line_of to (k + 1) ps ≡ Err j → BadFrom g to (joined ps) (k + 1) j)
-    → or_bad k r (λ s. read_on g line_of s (k + 1) ps) ≡ Err j → BadFrom g s (line ++ 10 ∷ joined ps) k j
+    → or_bad_line k r (λ s. read_on g line_of s (k + 1) ps) ≡ Err j → BadFrom g s (line ++ 10 ∷ joined ps) k j
 line_bad {S = S} g line_of exact s line ps k j None h e more bad =
     stuck_here g s (line ++ 10 ∷ joined ps) k j (err_is {S = S} k j bad)
     (λ i rest is allowed same.
@@ -274,7 +273,7 @@ last_stuck g s last k true e open_yet =
     absurd (open_yet b.1 (nil_from_length last (eqb-true (length last) 0 b.0)))
 
 line_stuck : {S I : Type 0} (g : Grammar S I) (line_of : List ℕ → Option I) → IsExact g line_of → (s : S) (line : List ℕ) (ps : List (List ℕ)) (k : ℕ) (r : Option S) → r ≡ step g line_of s line
-    → ((i : I) (more : List ℕ) → g.is_line i ≡ true → g.allows s i ≡ true → line ++ 10 ∷ joined ps ≢ g.text i ++ 10 ∷ more) → or_bad k r (λ s. read_on g line_of s (k + 1) ps) ≡ Err k
+    → ((i : I) (more : List ℕ) → g.is_line i ≡ true → g.allows s i ≡ true → line ++ 10 ∷ joined ps ≢ g.text i ++ 10 ∷ more) → or_bad_line k r (λ s. read_on g line_of s (k + 1) ps) ≡ Err k
 line_stuck g line_of exact s line ps k None e stuck = refl
 line_stuck g line_of exact s line ps k (Some to) e stuck =
     let st = step_takes g line_of exact s line to (sym e) in

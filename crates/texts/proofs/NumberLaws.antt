@@ -1,12 +1,12 @@
 -- A number is read exactly from its decimal text.
-use Rattle.std.proofs.Common.{◌≡◌, ℕ, zero, suc, ◌+◌, ◌*◌, ◌/◌, ◌%◌, ◌-◌, ◌^◌, ◌<◌, ◌≤◌, Bool, true, false, cond, eqb, ltb, leb, ◌&&◌, ◌||◌, not, List, [], ◌∷◌, ◌++◌, length, replicate, Option, Some, None, refl, sym, ap, subst, ◌∙◌, append_assoc, arith, rules, inl, inr, ◌⊎◌}
+use Rattle.std.proofs.Common.{◌≡◌, ℕ, zero, suc, ◌+◌, ◌*◌, ◌/◌, ◌%◌, ◌-◌, ◌^◌, ◌<◌, ◌≤◌, Bool, true, false, cond, eqb, ltb, ◌&&◌, not, List, [], ◌∷◌, ◌++◌, length, Option, Some, None, refl, sym, ap, subst, ◌∙◌, append_assoc, arith, inl, inr, ◌⊎◌}
 use Rattle.std.specs.Fmt.{decimal}
 use Rattle.std.proofs.Math.Nat.{mul-le-mul_right}
-use Rattle.std.proofs.lemmas.Bool.{cases_lt}
+use Rattle.std.proofs.lemmas.Bool.{ltb-true}
 use Rattle.std.proofs.lemmas.Bool.Decides.{nat_tests}
 use Rattle.std.proofs.lemmas.List.{append-nil}
-use Rattle.std.proofs.lemmas.Fmt.{decimal_digit, decimal_step_wide, decimal_by_steps_wide, length-decimal-le_wide}
-use Rattle.texts.specs.Numbers.{is_digit, is_front, value_from, number_of}
+use Rattle.std.proofs.lemmas.Fmt.{decimal_digit, decimal_step_wide, decimal_by_steps_wide}
+use Rattle.texts.specs.Numbers.{is_digit, is_well_led, value_from, number_of, small, ◌>>=◌, NumbersAreExact}
 use Rattle.texts.specs.Cuts.{lacks}
 
 -- the test of a step that went on
@@ -16,6 +16,11 @@ went false x y e = absurd cc
 
 pub some_is : {A : Type 0} (x y : A) → Some x ≡ Some y → x ≡ y
 some_is x y e = cc
+
+-- the value of a step that gave one
+pub bind_some : {A B : Type 0} (r : Option A) (f : A → Option B) (y : B) → (r >>= f) ≡ Some y → (x : A) × (r ≡ Some x) × (f x ≡ Some y)
+bind_some (Some x) f y e = (x, refl, e)
+bind_some None f y e = absurd cc
 
 is_within : (n c : ℕ) → (is_digit c && ltb n (10 ^ 37)) ≡ true → (48 ≤ c) × (c ≤ 57) × (n < 10 ^ 37)
 is_within n c h = grind (arith, nat_tests)
@@ -76,12 +81,12 @@ leads : (n : ℕ) → n < 10 ^ 38 → 0 < n → Leads (decimal n)
 leads n small pos =
     decimal_by_steps_wide (λ n ds. 0 < n → Leads ds) (λ n h pos. omega arith) (λ n ds low before pos. leads_append ds (48 + n % 10) (before (omega arith))) n (omega arith) pos
 
-front_from_leads : (ds : List ℕ) → Leads ds → is_front ds ≡ true
+front_from_leads : (ds : List ℕ) → Leads ds → is_well_led ds ≡ true
 front_from_leads [] h = absurd h
 front_from_leads (d ∷ ds) h = grind (arith, nat_tests)
 
-front_again : (n : ℕ) → n < 10 ^ 38 → is_front (decimal n) ≡ true
-front_again zero small = ap is_front (decimal_digit 0 (omega arith))
+front_again : (n : ℕ) → n < 10 ^ 38 → is_well_led (decimal n) ≡ true
+front_again zero small = ap is_well_led (decimal_digit 0 (omega arith))
 front_again (suc n) small = front_from_leads (decimal (suc n)) (leads (suc n) small (omega arith))
 
 pub number_again : (n : ℕ) → n < 10 ^ 38 → number_of (decimal n) ≡ Some n
@@ -103,7 +108,7 @@ from_one c cs m low e =
     let digit : decimal (c - 48) ≡ c ∷ [] = decimal_digit (c - 48) (omega (arith, w.1)) ∙ ap (λ (k : ℕ). k ∷ []) (omega arith) in
     (sym (t.0 ∙ ap (λ (x : List ℕ). x ++ cs) digit), t.1)
 
-front_cases : (c : ℕ) (cs : List ℕ) → 48 ≤ c → is_front (c ∷ cs) ≡ true → (48 < c) ⊎ ((c ≡ 48) × (length cs ≡ 0))
+front_cases : (c : ℕ) (cs : List ℕ) → 48 ≤ c → is_well_led (c ∷ cs) ≡ true → (48 < c) ⊎ ((c ≡ 48) × (length cs ≡ 0))
 front_cases c cs low h = grind (arith, nat_tests)
 
 alone : (c : ℕ) (cs : List ℕ) (m : ℕ) → c ≡ 48 → length cs ≡ 0 → value_from 0 (c ∷ cs) ≡ Some m → ((c ∷ cs) ≡ decimal m) × (m < 10 ^ 38)
@@ -113,7 +118,7 @@ alone c [] m e empty v =
     rw (same, e) (sym (decimal_digit 0 (omega arith)), omega arith)
 alone c (d ∷ cs) m e empty v = absurd (omega arith)
 
-numeral_takes : (text : List ℕ) (n : ℕ) → is_front text ≡ true → value_from 0 text ≡ Some n → (text ≡ decimal n) × (n < 10 ^ 38)
+numeral_takes : (text : List ℕ) (n : ℕ) → is_well_led text ≡ true → value_from 0 text ≡ Some n → (text ≡ decimal n) × (n < 10 ^ 38)
 numeral_takes [] n f e = absurd cc
 numeral_takes (c ∷ cs) n f e =
     elim (front_cases c cs (value_of_one c cs n e).0 f) [
@@ -123,7 +128,7 @@ numeral_takes (c ∷ cs) n f e =
 
 pub number_takes : (text : List ℕ) (n : ℕ) → number_of text ≡ Some n → (text ≡ decimal n) × (n < 10 ^ 38)
 unfolding number_of
-number_takes text n e = let w = went (is_front text) (value_from 0 text) n e in numeral_takes text n w.0 w.1
+number_takes text n e = let w = went (is_well_led text) (value_from 0 text) n e in numeral_takes text n w.0 w.1
 
 -- digits are no other byte
 digit_is_not : (b n c : ℕ) → b < 48 ⊎ 57 < b → (is_digit c && ltb n (10 ^ 37)) ≡ true → not (eqb c b) ≡ true
@@ -148,3 +153,27 @@ value_below (c ∷ cs) n m e =
     let step : (n * 10 + (c - 48) + 1) * 10 ^ length cs ≤ ((n + 1) * 10) * 10 ^ length cs = mul-le-mul_right (10 ^ length cs) (omega (arith, h.0, h.1)) in
     let power : 10 ^ suc (length cs) ≡ 10 * 10 ^ length cs = omega arith in
     rw power (omega (arith, more, step))
+
+-- ---- numbers below 2^64
+
+pub small_takes : (text : List ℕ) (n : ℕ) → small text ≡ Some n → (text ≡ decimal n) × (n < 2 ^ 64)
+unfolding small
+small_takes text n e =
+    let b = bind_some (number_of text) (λ m. cond (ltb m (2 ^ 64)) (Some m) None) n e in
+    let w = went (ltb b.0 (2 ^ 64)) (Some b.0) n b.2 in
+    let same : b.0 ≡ n = some_is b.0 n w.1 in
+    let t = number_takes text b.0 b.1 in
+    subst (λ (k : ℕ). (text ≡ decimal k) × (k < 2 ^ 64)) same (t.0, ltb-true b.0 (2 ^ 64) w.0)
+
+pub small_again : (n : ℕ) → n < 2 ^ 64 → small (decimal n) ≡ Some n
+unfolding small
+small_again n h =
+    let test : ltb n (2 ^ 64) ≡ true = grind (arith, nat_tests) in
+    rw (number_again n (omega arith), test) refl
+
+pub numbers_are_exact_lem : NumbersAreExact
+numbers_are_exact_lem = record {
+  numbers = λ text n. (number_takes text n, λ is. ap number_of is.0 ∙ number_again n is.1);
+  small_numbers = λ text n. (small_takes text n, λ is. ap small is.0 ∙ small_again n is.1);
+  digits = decimal_lacks;
+}

@@ -1,21 +1,17 @@
--- A point is read exactly from its text, whatever follows, and so is a span.
-use Rattle.std.proofs.Common.{◌≡◌, ◌≢◌, ℕ, zero, suc, ◌+◌, ◌*◌, ◌/◌, ◌%◌, ◌-◌, ◌^◌, ◌<◌, ◌≤◌, Bool, true, false, cond, eqb, ltb, leb, ◌&&◌, ◌||◌, not, List, [], ◌∷◌, ◌++◌, length, take, drop, replicate, Option, Some, None, refl, sym, ap, subst, ◌∙◌, append_assoc, arith, rules, inl, inr, ◌⊎◌}
+-- A point is read exactly from its text, whatever follows.
+use Rattle.std.proofs.Common.{◌≡◌, ℕ, zero, suc, ◌+◌, ◌*◌, ◌/◌, ◌%◌, ◌-◌, ◌^◌, ◌<◌, ◌≤◌, Bool, true, false, cond, eqb, ltb, not, List, [], ◌∷◌, ◌++◌, length, take, drop, replicate, Option, Some, None, refl, sym, ap, subst, ◌∙◌, append_assoc, arith, inl, inr, ◌⊎◌}
 use Rattle.std.specs.Fmt.{decimal}
-use Rattle.std.proofs.lemmas.Bool.{cases_lt, eqb-true, ltb-false, le-ltb}
+use Rattle.std.proofs.lemmas.Bool.{eqb-true, ltb-false, le-ltb}
 use Rattle.std.proofs.lemmas.Bool.Decides.{nat_tests}
-use Rattle.std.proofs.lemmas.List.{append-nil, take_at, drop_at, take-append-drop, length-append, length-replicate, length-take, nil_from_length}
+use Rattle.std.proofs.lemmas.List.{take_at, drop_at, take-append-drop, length-append, length-replicate, length-take}
 use Rattle.std.proofs.lemmas.Fmt.{decimal_digit, length-decimal-le_wide}
 use Rattle.std.proofs.lemmas.Nat.{div-mul-add, mod-mul-add}
 use Rattle.std.proofs.Math.Nat.{div-le_self, div-add-mod, mod-lt, one-le-pow, le-div_iff_mul-le, div-mul-le_self}
 use Rattle.texts.specs.Cuts.{before, behind, lacks}
-use Rattle.texts.specs.Numbers.{is_digit, is_front, value_from, number_of, zero_padded, point_text, ◌>>=◌, part_of, units_of, point_at, span_text, ordered, high_of, ends_of, AreEnds}
-use Rattle.texts.proofs.CutLaws.{before_at, behind_at, cut_back, both_true, lacks_append}
+use Rattle.texts.specs.Numbers.{value_from, number_of, zero_padded, point_text, ◌>>=◌, value_of_width, units_of, point_at, PointsAreExact}
+use Rattle.texts.proofs.CutLaws.{before_at, behind_at, cut_back, lacks_append}
+pub use Rattle.texts.proofs.NumberLaws.{bind_some}
 use Rattle.texts.proofs.NumberLaws.{went, some_is, number_takes, number_again, value_again, value_of_one, value_lacks, decimal_lacks, value_below, from_one}
-
--- the value of a step that gave one
-pub bind_some : {A B : Type 0} (r : Option A) (f : A → Option B) (y : B) → (r >>= f) ≡ Some y → (x : A) × (r ≡ Some x) × (f x ≡ Some y)
-bind_some (Some x) f y e = (x, refl, e)
-bind_some None f y e = absurd cc
 
 kept : {A : Type 0} (b : Bool) (x : Option A) (y : A) → cond b None x ≡ Some y → (b ≡ false) × (x ≡ Some y)
 kept true x y e = absurd cc
@@ -79,7 +75,7 @@ padded_takes (d ∷ cs) c n e =
 
 -- ---- a part of so many digits
 
-part_takes : (width : ℕ) (text : List ℕ) (n : ℕ) → 0 < width → part_of width text ≡ Some n → (text ≡ zero_padded width (decimal n)) × (length text ≡ width) × (n < 10 ^ width)
+part_takes : (width : ℕ) (text : List ℕ) (n : ℕ) → 0 < width → value_of_width width text ≡ Some n → (text ≡ zero_padded width (decimal n)) × (length text ≡ width) × (n < 10 ^ width)
 part_takes width [] n pos e =
     let w = went (eqb (0) width) (value_from 0 []) n e in
     absurd (omega (arith, eqb-true 0 width w.0))
@@ -90,7 +86,7 @@ part_takes width (c ∷ cs) n pos e =
     let below : n + 1 ≤ (0 + 1) * 10 ^ length (c ∷ cs) = value_below (c ∷ cs) 0 n w.1 in
     (t.0 ∙ ap (λ (k : ℕ). zero_padded k (decimal n)) size, size, subst (λ (k : ℕ). n < 10 ^ k) size (omega (arith, below)))
 
-part_again : (width n : ℕ) → 0 < width → n < 10 ^ width → n < 10 ^ 38 → (part_of width (zero_padded width (decimal n)) ≡ Some n) × (length (zero_padded width (decimal n)) ≡ width)
+part_again : (width n : ℕ) → 0 < width → n < 10 ^ width → n < 10 ^ 38 → (value_of_width width (zero_padded width (decimal n)) ≡ Some n) × (length (zero_padded width (decimal n)) ≡ width)
 part_again width n pos fits small =
     let size : length (zero_padded width (decimal n)) ≡ width = length_padded width (decimal n) (length-decimal-le_wide width n pos fits (omega arith)) in
     let test : eqb (length (zero_padded width (decimal n))) width ≡ true = rw size (grind arith) in
@@ -116,8 +112,8 @@ pub point_takes : (d : ℕ) (text : List ℕ) (v : ℕ) (tail : List ℕ) → 0 
 unfolding point_at
 point_takes d text v tail pos e =
     let rest : List ℕ = behind 46 text in
-    let a = bind_some (number_of (before 46 text)) (λ whole. part_of d (take d (behind 46 text)) >>= λ part. units_of d whole part >>= λ units. Some (units, drop d (behind 46 text))) (v, tail) e in
-    let b = bind_some (part_of d (take d (behind 46 text))) (λ part. units_of d a.0 part >>= λ units. Some (units, drop d (behind 46 text))) (v, tail) a.2 in
+    let a = bind_some (number_of (before 46 text)) (λ whole. value_of_width d (take d (behind 46 text)) >>= λ part. units_of d whole part >>= λ units. Some (units, drop d (behind 46 text))) (v, tail) e in
+    let b = bind_some (value_of_width d (take d (behind 46 text))) (λ part. units_of d a.0 part >>= λ units. Some (units, drop d (behind 46 text))) (v, tail) a.2 in
     let c = bind_some (units_of d a.0 b.0) (λ units. Some (units, drop d (behind 46 text))) (v, tail) b.2 in
     let whole = number_takes (before 46 text) a.0 a.1 in
     let part = part_takes d (take d (behind 46 text)) b.0 pos b.1 in
@@ -157,76 +153,7 @@ point_again d v tail pos few small =
       drop_at (zero_padded d (decimal (v % 10 ^ d))) tail d p.1,
     ) refl
 
--- ---- a span
-
-ordered_takes : (lo : ℕ) (high : ℕ × List ℕ) (x : ℕ × ℕ) → ordered lo high ≡ Some x → (x ≡ (lo, high.0)) × (high.1 ≡ []) × (lo < high.0)
-ordered_takes lo high x e =
-    let w = went (eqb (length high.1) 0 && ltb lo high.0) (Some (lo, high.0)) x e in
-    let b = both_true (eqb (length high.1) 0) (ltb lo high.0) w.0 in
-    (sym (some_is (lo, high.0) x w.1), nil_from_length high.1 (eqb-true (length high.1) 0 b.0), grind (arith, nat_tests))
-
-abbrev IsSpan : ℕ → List ℕ → ℕ × ℕ → Type 0
-IsSpan d text x = (text ≡ span_text d x.0 x.1) × AreEnds x.0 x.1
-
-point_span : (d lo : ℕ) (text : List ℕ) → text ≡ point_text d lo ++ [] → lo ≤ 10 ^ 37 → IsSpan d text (lo, lo)
-point_span d lo text e small =
-    let same : eqb lo lo ≡ true = grind arith in
-    (rw same (e ∙ append-nil (point_text d lo)), record { order = omega arith; small = small })
-
-wide_span : (d lo hi : ℕ) (text more : List ℕ) → text ≡ point_text d lo ++ (46 ∷ 46 ∷ more) → more ≡ point_text d hi → lo < hi → hi ≤ 10 ^ 37 → IsSpan d text (lo, hi)
-wide_span d lo hi text more e rest lt small =
-    let other : eqb lo hi ≡ false = grind (arith, nat_tests) in
-    (rw other (e ∙ ap (λ (t : List ℕ). point_text d lo ++ (46 ∷ 46 ∷ t)) rest), record { order = omega arith; small = small })
-
-high_takes : (d lo : ℕ) (text tail : List ℕ) (x : ℕ × ℕ) → 0 < d → text ≡ point_text d lo ++ tail → lo ≤ 10 ^ 37 → high_of d lo tail ≡ Some x → IsSpan d text x
-high_takes d lo text [] x pos e small h = subst (λ (y : ℕ × ℕ). IsSpan d text y) (some_is (lo, lo) x h) (point_span d lo text e small)
-high_takes d lo text (b ∷ []) x pos e small h = absurd cc
-high_takes d lo text (b ∷ c ∷ more) x pos e small h =
-    let w = went (eqb b 46 && eqb c 46) (point_at d more >>= ordered lo) x h in
-    let dots = both_true (eqb b 46) (eqb c 46) w.0 in
-    let p = bind_some (point_at d more) (ordered lo) x w.1 in
-    let t = point_takes d more p.0.0 p.0.1 pos p.1 in
-    let o = ordered_takes lo p.0 x p.2 in
-    let b_is : b ≡ 46 = eqb-true b 46 dots.0 in
-    let c_is : c ≡ 46 = eqb-true c 46 dots.1 in
-    let text_is : text ≡ point_text d lo ++ (46 ∷ 46 ∷ more) = e ∙ ap (λ (k : ℕ). point_text d lo ++ (k ∷ c ∷ more)) b_is ∙ ap (λ (k : ℕ). point_text d lo ++ (46 ∷ k ∷ more)) c_is in
-    let more_is : more ≡ point_text d p.0.0 = t.0 ∙ ap (λ (r : List ℕ). point_text d p.0.0 ++ r) o.1 ∙ append-nil (point_text d p.0.0) in
-    subst (λ (y : ℕ × ℕ). IsSpan d text y) (sym o.0) (wide_span d lo p.0.0 text more text_is more_is o.2 t.1)
-
--- What is read is the text of the ends.
-pub ends_takes : (d : ℕ) (text : List ℕ) (x : ℕ × ℕ) → 0 < d → ends_of d text ≡ Some x → (text ≡ span_text d x.0 x.1) × AreEnds x.0 x.1
-unfolding ends_of
-ends_takes d text x pos e =
-    let a = bind_some (point_at d text) (λ low. high_of d low.0 low.1) x e in
-    let t = point_takes d text a.0.0 a.0.1 pos a.1 in
-    high_takes d a.0.0 text a.0.1 x pos t.0 t.1 a.2
-
-ends_by_test : (d lo hi : ℕ) (t : Bool) → t ≡ eqb lo hi → 0 < d → d ≤ 37 → lo ≤ hi → hi ≤ 10 ^ 37
-    → ends_of d (cond t (point_text d lo) (point_text d lo ++ (46 ∷ 46 ∷ point_text d hi))) ≡ Some (lo, hi)
-unfolding ends_of
-ends_by_test d lo hi true e pos few order small =
-    let same : lo ≡ hi = eqb-true lo hi (sym e) in
-    let again : point_at d (point_text d lo) ≡ Some (lo, []) = ap (point_at d) (sym (append-nil (point_text d lo))) ∙ point_again d lo [] pos few (omega arith) in
-    rw again (ap (λ (k : ℕ). Some (lo, k)) same)
-ends_by_test d lo hi false e pos few order small =
-    let low = point_again d lo (46 ∷ 46 ∷ point_text d hi) pos few (omega arith) in
-    let high : point_at d (point_text d hi) ≡ Some (hi, []) = ap (point_at d) (sym (append-nil (point_text d hi))) ∙ point_again d hi [] pos few small in
-    let less : ltb lo hi ≡ true = grind (arith, nat_tests) in
-    rw (low, high, less) refl
-
--- The text of ends is read.
-pub ends_again : (d lo hi : ℕ) → 0 < d → d ≤ 37 → AreEnds lo hi → ends_of d (span_text d lo hi) ≡ Some (lo, hi)
-ends_again d lo hi pos few ends = ends_by_test d lo hi (eqb lo hi) refl pos few ends.order ends.small
-
-not_some : {A : Type 0} (r : Option A) (x : A) → r ≡ None → r ≡ Some x → ⊥
-not_some None x n e = absurd cc
-not_some (Some y) x n e = absurd cc
-
--- No other text is read.
-pub ends_none : (d : ℕ) (text : List ℕ) → 0 < d → d ≤ 37 → ends_of d text ≡ None → (lo hi : ℕ) → AreEnds lo hi → text ≢ span_text d lo hi
-ends_none d text pos few e lo hi ends is = not_some (ends_of d text) (lo, hi) e (ap (ends_of d) is ∙ ends_again d lo hi pos few ends)
-
--- ---- bytes that no span has
+-- ---- bytes that no point has
 
 pub padded_lacks : (b width n : ℕ) → b < 48 ⊎ 57 < b → n < 10 ^ 38 → lacks b (zero_padded width (decimal n)) ≡ true
 padded_lacks b width n h small = value_lacks b (zero_padded width (decimal n)) 0 n h (padded_again width n small)
@@ -238,13 +165,8 @@ point_lacks b d v h small =
     let rest : lacks b (46 ∷ zero_padded d (decimal (v % 10 ^ d))) ≡ true = rw dot (padded_lacks b d (v % 10 ^ d) other (omega (arith, div-add-mod v (10 ^ d)))) in
     lacks_append b (decimal (v / 10 ^ d)) (46 ∷ zero_padded d (decimal (v % 10 ^ d))) (decimal_lacks b (v / 10 ^ d) other (omega (arith, div-le_self v (10 ^ d)))) rest
 
-lacks_cond : (b : ℕ) (t : Bool) (xs ys : List ℕ) → lacks b xs ≡ true → lacks b ys ≡ true → lacks b (cond t xs ys) ≡ true
-lacks_cond b true xs ys h k = h
-lacks_cond b false xs ys h k = k
-
-pub span_lacks : (b d lo hi : ℕ) → b < 46 ⊎ 57 < b → AreEnds lo hi → lacks b (span_text d lo hi) ≡ true
-span_lacks b d lo hi h ends =
-    let dot : not (eqb 46 b) ≡ true = grind (arith, nat_tests) in
-    let low : lo ≤ 10 ^ 37 = omega (arith, ends.order, ends.small) in
-    let rest : lacks b (46 ∷ 46 ∷ point_text d hi) ≡ true = rw dot (point_lacks b d hi h ends.small) in
-    lacks_cond b (eqb lo hi) (point_text d lo) (point_text d lo ++ (46 ∷ 46 ∷ point_text d hi)) (point_lacks b d lo h low) (lacks_append b (point_text d lo) (46 ∷ 46 ∷ point_text d hi) (point_lacks b d lo h low) rest)
+pub points_are_exact_lem : PointsAreExact
+points_are_exact_lem = record {
+  points = λ decimals text units rest pos few. (point_takes decimals text units rest pos, λ is. ap (point_at decimals) is.0 ∙ point_again decimals units rest pos few is.1);
+  digits = point_lacks;
+}

@@ -1,7 +1,7 @@
 use Rattle.std.proofs.Common.{◌+◌}
 use Rattle.std.proofs.lemmas.List.{take_rest}
 use Rattle.texts.proofs.GrammarLaws.{line_found, line_none, lacks_more}
-use Rattle.texts.proofs.cuts.line_at.Goals as goal
+use Rattle.texts.proofs.cuts.first_line.Goals as goal
 
 pub returns-then-text-i-eq10-clause-line : goal.returns-then-text-i-eq10-clause-line
 returns-then-text-i-eq10-clause-line c =

@@ -1,0 +1,6 @@
+use Rattle.texts.proofs.Padded.{nine_is}
+use Rattle.texts.proofs.printed.ChanceDisplay.fmt.Goals as goal
+
+pub returns-clause-writes : goal.returns-clause-writes
+returns-clause-writes g c plain ok =
+    rw (nine_is _) at (rw c.laid_out.ensures at c.write.ensures.writes plain ok)
