@@ -1,0 +1,92 @@
+-- Which line may follow which.
+use Rattle.std.specs.Prelude.{ℕ, ◌*◌, ◌&&◌, Bool, true, false, pos, List, [], Option, Some, None}
+use Rattle.std.specs.Ordering.{int_eq}
+use Rattle.history_model.specs.declared.tally.Tally.{Tally}
+use Rattle.history_model.specs.Game.{Payoffs}
+use Rattle.history_model.specs.Noise.{FlipRate}
+use Rattle.history_model.specs.Tally.{left_points, right_points}
+use Rattle.texts.specs.Grammar.{Grammar}
+use Rattle.fixed_span.specs.Span.{Ends, score_units}
+use Rattle.match_play.specs.declared.line.MatchLine.{MatchLine}
+use Rattle.report_lines.specs.declared.line.Kind.{Kind}
+use Rattle.report_lines.specs.declared.line.Kind.TheVariants as kinds
+use Rattle.report_lines.specs.declared.line.ShownMatch.{ShownMatch}
+use Rattle.report_lines.specs.declared.line.Line.{Line}
+use Rattle.report_lines.specs.declared.line.Line.TheVariants as lines
+use Rattle.report_lines.specs.Texts.{line_text, is_line}
+use Rattle.lab_report.specs.declared.report.Body.TheVariants as bodies
+use Rattle.lab_report.specs.declared.state.BodySoFar.{BodySoFar}
+use Rattle.lab_report.specs.declared.state.BodySoFar.TheVariants as parts
+use Rattle.lab_report.specs.declared.state.State.{State}
+use Rattle.lab_report.specs.declared.state.State.TheVariants as states
+use Rattle.lab_report.specs.Names.{place_in, with_name}
+
+-- ---- the line of a match
+
+-- the score is these points
+abbrev pub is_paid : Ends → ℕ → Bool
+is_paid score points = int_eq score.lo (pos (points * score_units)) && int_eq score.hi (pos (points * score_units))
+
+-- the scores are what the counts are paid
+abbrev pub pays : Payoffs → ShownMatch → Option Tally → Bool
+pays game m None = true
+pays game m (Some tally) = is_paid m.left_score (left_points game tally) && is_paid m.right_score (right_points game tally)
+
+-- the match with places in place of its names, of which those that are new come behind all others
+abbrev pub placed_match : List (List ℕ) → ShownMatch → MatchLine
+placed_match names m = record {
+  left = place_in (with_name names m.left) m.left;
+  right = place_in (with_name (with_name names m.left) m.right) m.right;
+  turns = m.turns;
+  left_score = m.left_score;
+  right_score = m.right_score;
+  tally = m.tally;
+}
+
+abbrev pub names_with_match : List (List ℕ) → ShownMatch → List (List ℕ)
+names_with_match names m = with_name (with_name names m.left) m.right
+
+-- ---- the lines of a body
+
+abbrev pub no_lines : Kind → BodySoFar
+no_lines kinds.Match = parts.Match None
+
+-- one match
+abbrev pub match_allows : Payoffs → Option MatchLine → Line → Bool
+match_allows game None (lines.Match m) = pays game m m.tally
+match_allows game (Some line) lines.End = true
+match_allows _ _ _ = false
+
+abbrev pub body_allows : Payoffs → BodySoFar → Line → Bool
+body_allows game (parts.Match line) i = match_allows game line i
+
+-- ---- reports
+
+abbrev pub allows : State → Line → Bool
+allows states.Start (lines.Head kind) = true
+allows (states.AfterHead kind) (lines.Game game) = true
+allows (states.AfterGame kind game) (lines.Noise noise) = true
+allows (states.InBody game noise names body) i = body_allows game body i
+allows _ _ = false
+
+-- what a line of the body leaves
+abbrev pub after_in_body : Payoffs → FlipRate → List (List ℕ) → BodySoFar → Line → State
+after_in_body game noise names (parts.Match None) (lines.Match m) =
+    states.InBody game noise (names_with_match names m) (parts.Match (Some (placed_match names m)))
+after_in_body game noise names (parts.Match (Some line)) lines.End = states.Ended game noise names (bodies.Match line)
+after_in_body game noise names body _ = states.InBody game noise names body
+
+abbrev pub after : State → Line → State
+after states.Start (lines.Head kind) = states.AfterHead kind
+after (states.AfterHead kind) (lines.Game game) = states.AfterGame kind game
+after (states.AfterGame kind game) (lines.Noise noise) = states.InBody game noise [] (no_lines kind)
+after (states.InBody game noise names body) i = after_in_body game noise names body i
+after state _ = state
+
+abbrev pub is_ended : State → Bool
+is_ended (states.Ended game noise names body) = true
+is_ended _ = false
+
+-- the lines of reports, each with what may come before it
+abbrev pub grammar : Grammar State Line
+grammar = record { text = line_text; is_line = is_line; allows = allows; after = after; is_ended = is_ended }

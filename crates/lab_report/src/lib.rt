@@ -1,0 +1,15 @@
+//! Reports, and their texts both ways.
+#![tactic(auto)]
+
+mod lists;
+mod making;
+mod reading;
+mod report;
+mod state;
+mod writing;
+
+pub use lists::{Names, Noises};
+pub use making::match_report;
+pub use reading::{ReportError, read_report};
+pub use report::{Body, Report};
+pub use writing::write_report;

@@ -1,0 +1,115 @@
+-- The lines of reports and their texts, without the LF that ends each. A line is fields joined by `|`.
+use Rattle.std.specs.Prelude.{codes, ℕ, ◌+◌, ◌*◌, ◌^◌, ◌&&◌, ◌==◌, Bool, true, nat_lt, nat_le, pos, int_le, List, ◌++◌, Option, Some, None, if◌then◌else◌}
+use Rattle.std.specs.Fmt.{decimal}
+use Rattle.history_model.specs.declared.tally.Tally.{Tally}
+use Rattle.history_model.specs.Game.{Payoffs, magnitude}
+use Rattle.history_model.specs.Name.{is_name}
+use Rattle.history_model.specs.Noise.{FlipRate}
+use Rattle.history_model.specs.Tally.{total}
+use Rattle.texts.specs.Numbers.{span_text}
+use Rattle.fixed_span.specs.Span.{Ends}
+use Rattle.fixed_span.specs.Verdict.{verdict}
+use Rattle.fixed_span.specs.declared.ordering.Verdict.{Verdict}
+use Rattle.fixed_span.specs.declared.ordering.Verdict.TheVariants as verdicts
+use Rattle.report_lines.specs.declared.line.Kind.{Kind}
+use Rattle.report_lines.specs.declared.line.Kind.TheVariants as kinds
+use Rattle.report_lines.specs.declared.line.ShownMatch.{ShownMatch}
+use Rattle.report_lines.specs.declared.line.Line.{Line}
+use Rattle.report_lines.specs.declared.line.Line.TheVariants as lines
+
+-- the first line: the version, and what the report is of
+abbrev pub kind_word : Kind → List ℕ
+kind_word kinds.Match = codes "match"
+
+abbrev pub head_text : Kind → List ℕ
+head_text kind = codes "axlab|1|" ++ kind_word kind
+
+-- T > R > P > S and 2R > T + S
+abbrev pub is_dilemma : Payoffs → Bool
+is_dilemma game =
+    (nat_lt game.r game.t && nat_lt game.p game.r) && (nat_lt game.s game.p && nat_lt (game.t + game.s) (2 * game.r))
+
+abbrev pub dilemma_word : Bool → List ℕ
+dilemma_word dilemma = if dilemma then codes "yes" else codes "no"
+
+-- the payoffs, and whether they make a prisoner's dilemma
+abbrev pub game_text : Payoffs → List ℕ
+game_text game =
+    codes "game|" ++ (decimal game.r ++ (codes "|" ++ (decimal game.s ++ (codes "|" ++ (decimal game.t ++ (codes "|" ++ (decimal game.p
+    ++ (codes "|dilemma|" ++ dilemma_word (is_dilemma game)))))))))
+
+abbrev pub noise_text : FlipRate → List ℕ
+noise_text noise = codes "noise|" ++ (decimal noise.n ++ (codes "|" ++ decimal noise.e))
+
+-- who played, and how long
+abbrev pub players_text : List ℕ → List ℕ → ℕ → List ℕ
+players_text left right turns =
+    codes "match|" ++ (left ++ (codes "|" ++ (right ++ (codes "|" ++ (decimal turns ++ codes "|")))))
+
+-- a score, with twelve decimals: a point once, and any other span by both ends
+abbrev pub score_text : Ends → List ℕ
+score_text score = span_text 12 (magnitude score.lo) (magnitude score.hi)
+
+-- who scored more, as far as two spans tell
+abbrev pub winner_word : Verdict → List ℕ
+winner_word verdicts.Greater = codes "left"
+winner_word verdicts.Less = codes "right"
+winner_word verdicts.Level = codes "level"
+winner_word verdicts.Undecided = codes "undecided"
+
+-- both scores, and the winner
+abbrev pub scores_text : Ends → Ends → List ℕ
+scores_text left right =
+    score_text left ++ (codes "|" ++ (score_text right ++ (codes "|" ++ (winner_word (verdict left right) ++ codes "|"))))
+
+-- how often each cooperated and how often each play came; or that the match isn't sure
+abbrev pub counts_text : Option Tally → List ℕ
+counts_text None = codes "mixed"
+counts_text (Some tally) =
+    codes "sure|" ++ (decimal (tally.cc + tally.cd) ++ (codes "|" ++ (decimal (tally.cc + tally.dc) ++ (codes "|" ++ (decimal tally.cc
+    ++ (codes "|" ++ (decimal tally.cd ++ (codes "|" ++ (decimal tally.dc ++ (codes "|" ++ decimal tally.dd))))))))))
+
+abbrev pub match_text : ShownMatch → List ℕ
+match_text m = players_text m.left m.right m.turns ++ (scores_text m.left_score m.right_score ++ counts_text m.tally)
+
+abbrev pub line_text : Line → List ℕ
+line_text (lines.Head kind) = head_text kind
+line_text (lines.Game game) = game_text game
+line_text (lines.Noise noise) = noise_text noise
+line_text (lines.Match m) = match_text m
+line_text lines.End = codes "end"
+
+-- ---- the ranges of what a line shows
+
+abbrev pub is_payoff : ℕ → Bool
+is_payoff pay = nat_le pay 1000000
+
+abbrev pub are_payoffs : Payoffs → Bool
+are_payoffs game = (is_payoff game.r && is_payoff game.s) && (is_payoff game.t && is_payoff game.p)
+
+-- a chance of at most one half, over a denominator from 1 to 1000
+abbrev pub is_noise : FlipRate → Bool
+is_noise noise = (nat_le 1 noise.e && nat_le noise.e 1000) && nat_le (2 * noise.n) noise.e
+
+abbrev pub is_turns : ℕ → Bool
+is_turns turns = nat_le 1 turns && nat_le turns (10 ^ 12)
+
+-- from 0 to 10^33 units
+abbrev pub is_score : Ends → Bool
+is_score score = int_le (pos 0) score.lo && (int_le score.lo score.hi && int_le score.hi (pos (10 ^ 33)))
+
+-- the counts are of so many turns
+abbrev pub counts_are : ℕ → Option Tally → Bool
+counts_are turns None = true
+counts_are turns (Some tally) = total tally == turns
+
+abbrev pub is_match : ShownMatch → Bool
+is_match m =
+    (is_name m.left && is_name m.right) && ((is_turns m.turns && is_score m.left_score) && (is_score m.right_score && counts_are m.turns m.tally))
+
+abbrev pub is_line : Line → Bool
+is_line (lines.Head kind) = true
+is_line (lines.Game game) = are_payoffs game
+is_line (lines.Noise noise) = is_noise noise
+is_line (lines.Match m) = is_match m
+is_line lines.End = true
