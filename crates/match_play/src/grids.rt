@@ -32,7 +32,7 @@ fn rows_at(players: &Side, place: usize) -> u32
 
 // The automaton of the player at a place of a side, which is advanced four times for each row.
 #[tactic(auto, using(player_core::proofs::Sides::map_read, player_core::proofs::Sides::lasting_kept))]
-fn tabulate_at(alloc: Global, players: &mut Side, place: usize) -> Result<Grid, NoMemory>
+pub(crate) fn tabulate_at(alloc: Global, players: &mut Side, place: usize) -> Result<Grid, NoMemory>
     requires { place < length (⟦<Side as Seats>⟧.seats players.old) }
     ensures grid { IfOk result (λ grid. grid ≡ (state_at (⟦<Side as Seats>⟧.seats players.old) place).lasting.automaton) }
     ensures lasting { lasting_of (⟦<Side as Seats>⟧.seats players.new) ≡ lasting_of (⟦<Side as Seats>⟧.seats players.old) }
