@@ -41,7 +41,6 @@ fn played_line(
     requires fits { Fits (lasting_of (⟦<Side as Seats>⟧.seats bench.old.left)) (lasting_of (⟦<Side as Seats>⟧.seats bench.old.right)) }
     requires left_known { IsKnown (lasting_of (⟦<Side as Seats>⟧.seats bench.old.left)) left.now.sheet.now }
     requires right_known { IsKnown (lasting_of (⟦<Side as Seats>⟧.seats bench.old.left)) right.now.sheet.now }
-    requires some_turns { 1 ≤ turns }
     requires few_turns { turns ≤ 10 ^ 12 }
     requires sure { IsSureMatch (entry_automaton (lasting_of (⟦<Side as Seats>⟧.seats bench.old.left)) left.now.sheet.now) left.now.noise (entry_automaton (lasting_of (⟦<Side as Seats>⟧.seats bench.old.left)) right.now.sheet.now) right.now.noise }
     ensures line { IsLineOf (entry_automaton (lasting_of (⟦<Side as Seats>⟧.seats bench.old.left)) left.now.sheet.now) left.now.noise (entry_automaton (lasting_of (⟦<Side as Seats>⟧.seats bench.old.left)) right.now.sheet.now) right.now.noise game.now turns result }
