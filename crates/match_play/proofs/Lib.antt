@@ -1,3 +1,4 @@
 pub mod Moving
 pub mod Places
 pub mod Playing
+pub mod Reading

@@ -58,7 +58,7 @@ side_kept keeping change old mid new k turns sheet after moved =
       automaton = λ _. automaton;
     }))
 
-more_none : (n : ℕ) → n < 2 ^ 64 → n ≡ more n 0
+pub more_none : (n : ℕ) → n < 2 ^ 64 → n ≡ more n 0
 more_none n fits = omega (arith, fits)
 
 pub side_advanced : OneChange → CountsAddUp → (old mid new : List PlayerState) (k turns : ℕ) (sheet : SheetData) (after : PlayerState)

@@ -36,7 +36,7 @@ fn play_at(bench: &mut Bench, i: usize, j: usize, turns: u64) -> Tally
 }
 
 // The place whose players take the sheet.
-fn place_of(bench: &Bench, sheet: &Sheet) -> usize
+pub(crate) fn place_of(bench: &Bench, sheet: &Sheet) -> usize
     requires fits { Fits (lasting_of (⟦<Side as Seats>⟧.seats bench.now.left)) (lasting_of (⟦<Side as Seats>⟧.seats bench.now.right)) }
     requires known { IsKnown (lasting_of (⟦<Side as Seats>⟧.seats bench.now.left)) sheet.now }
     ensures { IsPlaceOf (lasting_of (⟦<Side as Seats>⟧.seats bench.now.left)) (lasting_of (⟦<Side as Seats>⟧.seats bench.now.right)) sheet.now result }

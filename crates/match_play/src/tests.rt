@@ -1,7 +1,8 @@
 //! Matches between two small players, worked out by hand.
+use crate::grids::tabulate_at;
 use crate::{Tally, play};
-use history_model::{Move, Name};
-use player_core::{Kind, Player, Sheet, no_name};
+use history_model::{Move, Name, NoMemory};
+use player_core::{Kind, Player, Sheet, Side, no_name};
 use std::alloc::AllocError;
 use std::marker::Model;
 
@@ -136,5 +137,29 @@ fn echoes_take_turns(rt: HostRuntime) -> Result<(), AllocError> {
     );
     assert_eq!(rt; trusting.advances(), 5);
     assert_eq!(rt; wary.resumes(), 2);
+    Ok(())
+}
+
+#[test]
+fn wary_echo_is_read(rt: HostRuntime) -> Result<(), NoMemory> {
+    let alloc = rt.alloc();
+    let wary: Box<dyn Player> = Box::new(
+        alloc,
+        Echo {
+            start: 1,
+            mark: 0,
+            turns: 0,
+            returns: 0,
+        },
+    )?;
+    let mut side: Side = Vec::new(alloc);
+    side.push(wary)?;
+    let grid = tabulate_at(alloc, &mut side, 0)?;
+    assert_eq!(rt; grid.den, 1);
+    assert_eq!(rt; grid.start, 1);
+    assert_eq!(rt; grid.rows.len(), 2);
+    assert_eq!(rt; grid.row(0).weight, 1);
+    assert_eq!(rt; grid.row(1).next, [0, 1, 0, 1]);
+    assert_eq!(rt; side[0].advances(), 8);
     Ok(())
 }

@@ -1,0 +1,81 @@
+//! The automata that two sheets play on a bench, as grids.
+ghost use Rattle.std.specs.Prelude.{◌≡◌, ◌*◌, ◌<◌, IfOk, length};
+ghost use Rattle.player_core.specs.State.{IsState, lasting_of, state_at};
+ghost use Rattle.player_core.specs.Fits.{Fits};
+ghost use Rattle.player_core.specs.Entry.{entry_automaton};
+ghost use Rattle.player_core.specs.Bench.{KeepsPlugs};
+ghost use Rattle.player_core.specs.Counts.{Advanced};
+ghost use Rattle.match_play.specs.Known.{IsKnown};
+
+use crate::on_bench::place_of;
+use history_model::{Grid, NoMemory};
+use player_core::laws::{counts_add_up, entries_play, keeping_lasts, one_change};
+use player_core::{Bench, Player, Seats, Sheet, Side, tabulate};
+use std::alloc::Global;
+
+fn rows_of(player: &Box<dyn Player>) -> u32
+    ensures rows { result ≡ length (state player.now).lasting.automaton.rows }
+    ensures valid { IsState (state player.now) }
+{
+    player.rows()
+}
+
+// The number of rows of the player at a place of a side, which is valid.
+#[tactic(auto, using(player_core::proofs::Sides::map_read))]
+fn rows_at(players: &Side, place: usize) -> u32
+    requires { place < length (⟦<Side as Seats>⟧.seats players.now) }
+    ensures rows { result ≡ length (state_at (⟦<Side as Seats>⟧.seats players.now) place).lasting.automaton.rows }
+    ensures valid { IsState (state_at (⟦<Side as Seats>⟧.seats players.now) place) }
+{
+    rows_of(&players[place])
+}
+
+// The automaton of the player at a place of a side, which is advanced four times for each row.
+#[tactic(auto, using(player_core::proofs::Sides::map_read, player_core::proofs::Sides::lasting_kept))]
+pub(crate) fn tabulate_at(alloc: Global, players: &mut Side, place: usize) -> Result<Grid, NoMemory>
+    requires { place < length (⟦<Side as Seats>⟧.seats players.old) }
+    ensures grid { IfOk result (λ grid. grid ≡ (state_at (⟦<Side as Seats>⟧.seats players.old) place).lasting.automaton) }
+    ensures lasting { lasting_of (⟦<Side as Seats>⟧.seats players.new) ≡ lasting_of (⟦<Side as Seats>⟧.seats players.old) }
+    ensures advanced { IfOk result (λ _. Advanced (4 * length (state_at (⟦<Side as Seats>⟧.seats players.old) place).lasting.automaton.rows) (⟦<Side as Seats>⟧.seats players.old) (⟦<Side as Seats>⟧.seats players.new)) }
+    ensures valid { IsState (state_at (⟦<Side as Seats>⟧.seats players.old) place) }
+{
+    one_change();
+    let _rows = rows_at(players, place);
+    tabulate(alloc, &mut players[place])
+}
+
+/// Reads the automata that two sheets play: each side's player that takes its sheet is given it, and
+/// is then read row by row, with four advances for each row. All other players stay as they are, so
+/// the bench goes on fitting with the same plugs, also without memory.
+///
+/// # Errors
+///
+/// `NoMemory` where the grids find no memory.
+pub fn tabulate_sheets(
+    alloc: Global,
+    bench: &mut Bench,
+    left: &Sheet,
+    right: &Sheet,
+) -> Result<(Grid, Grid), NoMemory>
+    requires fits { Fits (lasting_of (⟦<Side as Seats>⟧.seats bench.old.left)) (lasting_of (⟦<Side as Seats>⟧.seats bench.old.right)) }
+    requires left_known { IsKnown (lasting_of (⟦<Side as Seats>⟧.seats bench.old.left)) left.now }
+    requires right_known { IsKnown (lasting_of (⟦<Side as Seats>⟧.seats bench.old.left)) right.now }
+    ensures left_grid { IfOk result (λ grids. grids.0 ≡ entry_automaton (lasting_of (⟦<Side as Seats>⟧.seats bench.old.left)) left.now) }
+    ensures right_grid { IfOk result (λ grids. grids.1 ≡ entry_automaton (lasting_of (⟦<Side as Seats>⟧.seats bench.old.left)) right.now) }
+    ensures left_advanced { IfOk result (λ _. Advanced (4 * length (entry_automaton (lasting_of (⟦<Side as Seats>⟧.seats bench.old.left)) left.now).rows) (⟦<Side as Seats>⟧.seats bench.old.left) (⟦<Side as Seats>⟧.seats bench.new.left)) }
+    ensures right_advanced { IfOk result (λ _. Advanced (4 * length (entry_automaton (lasting_of (⟦<Side as Seats>⟧.seats bench.old.left)) right.now).rows) (⟦<Side as Seats>⟧.seats bench.old.right) (⟦<Side as Seats>⟧.seats bench.new.right)) }
+    ensures fits { Fits (lasting_of (⟦<Side as Seats>⟧.seats bench.new.left)) (lasting_of (⟦<Side as Seats>⟧.seats bench.new.right)) }
+    ensures left_kept { KeepsPlugs (lasting_of (⟦<Side as Seats>⟧.seats bench.old.left)) (lasting_of (⟦<Side as Seats>⟧.seats bench.new.left)) }
+    ensures right_kept { KeepsPlugs (lasting_of (⟦<Side as Seats>⟧.seats bench.old.right)) (lasting_of (⟦<Side as Seats>⟧.seats bench.new.right)) }
+{
+    keeping_lasts();
+    entries_play();
+    one_change();
+    counts_add_up();
+    let i = place_of(bench, left);
+    let j = place_of(bench, right);
+    bench.load(i, left, j, right);
+    let left_grid = tabulate_at(alloc, &mut bench.left, i)?;
+    let right_grid = tabulate_at(alloc, &mut bench.right, j)?;
+    Ok((left_grid, right_grid))
+}

@@ -1,0 +1,7 @@
+//! Expected scores of matches in which moves are drawn by lot or flipped: a chain over all pairs of
+//! rows of two automata, computed turn by turn, with ends that hold the exact fraction.
+#![tactic(auto)]
+
+mod scores;
+
+pub use scores::expect;
