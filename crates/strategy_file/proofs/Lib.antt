@@ -1,3 +1,4 @@
 pub mod CsvRead
 pub mod CsvRows
 pub mod TomlRows
+pub mod Noted
