@@ -3,8 +3,12 @@
 
 mod mixing;
 mod ordering;
+mod reading;
 mod span;
+mod writing;
 
 pub use mixing::mix;
 pub use ordering::{Verdict, compare};
+pub use reading::read_span;
 pub use span::Span;
+pub use writing::{ChanceSpan, ScoreSpan, push_span, span_text};
