@@ -1,18 +1,18 @@
 -- A span is read exactly from its text.
-use Rattle.std.proofs.Common.{◌≡◌, ◌≢◌, ℕ, ◌+◌, ◌<◌, ◌≤◌, ◌^◌, ℤ, pos, negsuc, ◌≤ℤ◌, Bool, true, false, cond, eqb, ltb, ◌&&◌, not, List, [], ◌∷◌, ◌++◌, length, Option, Some, None, refl, sym, ap, subst, ◌∙◌, arith, inl, inr, ◌⊎◌}
+use Rattle.std.proofs.Common.{◌≡◌, ◌≢◌, ℕ, ◌<◌, ◌≤◌, ◌^◌, ℤ, pos, negsuc, ◌≤ℤ◌, Bool, true, false, cond, eqb, ltb, ◌&&◌, not, List, [], ◌∷◌, ◌++◌, length, Option, Some, None, refl, sym, ap, subst, ◌∙◌, arith, ◌⊎◌}
 use Rattle.std.specs.Prelude.{IfSome, IfNone}
 use Rattle.std.proofs.lemmas.Int.{ints}
 use Rattle.std.proofs.lemmas.Bool.{eqb-true}
 use Rattle.std.proofs.lemmas.Bool.Decides.{nat_tests}
 use Rattle.std.proofs.lemmas.List.{append-nil, nil_from_length}
-use Rattle.history_model.specs.Game.{magnitude, magnitude_back}
+use Rattle.history_model.specs.Game.{magnitude}
 use Rattle.texts.specs.Cuts.{lacks}
 use Rattle.texts.specs.Numbers.{point_text, point_at, ◌>>=◌}
 use Rattle.texts.proofs.CutLaws.{both_true, lacks_append}
 use Rattle.texts.proofs.NumberLaws.{went, some_is, bind_some}
 use Rattle.texts.proofs.PointLaws.{point_takes, point_again, point_lacks}
 use Rattle.fixed_span.specs.Span.{Ends}
-use Rattle.fixed_span.specs.Texts.{IsDecimals, IsShown, ends_text, span_text, above, span_from, span_of, SpansAreRead}
+use Rattle.fixed_span.specs.Texts.{IsDecimals, IsShown, ends_text, span_text, above, span_from, span_of, SpansAreExact}
 
 -- the span of two ends, in the whole numbers that its text shows
 abbrev IsSpan : ℕ → List ℕ → Ends → Type 0
@@ -72,8 +72,8 @@ by_test d lo hi false e pos_d few order small =
 decimals_small : (d : ℕ) → IsDecimals d → (0 < d) × (d ≤ 37)
 decimals_small d h = grind arith
 
-pub spans_are_read_lem : SpansAreRead
-spans_are_read_lem d span decimals shown = ends_again span.lo span.hi shown.low shown.ordered shown.high
+pub span_again : (d : ℕ) (span : Ends) → IsDecimals d → IsShown span → span_of d (span_text d span) ≡ Some span
+span_again d span decimals shown = ends_again span.lo span.hi shown.low shown.ordered shown.high
   where
     ends_again : (lo hi : ℤ) → pos 0 ≤ℤ lo → lo ≤ℤ hi → hi ≤ℤ pos (10 ^ 37) → span_of d (span_text d (record { lo = lo; hi = hi })) ≡ Some (record { lo = lo; hi = hi })
     ends_again (pos a) (pos b) l m h = let p = decimals_small d decimals in by_test d a b (eqb a b) refl p.0 p.1 (omega (arith, ints)) (omega (arith, ints))
@@ -89,5 +89,33 @@ span_found d text None h e = tt
 span_found d text (Some x) h e = span_takes d text x (decimals_small d h).0 (sym e)
 
 pub span_none : (d : ℕ) (text : List ℕ) (r : Option Ends) → IsDecimals d → r ≡ span_of d text → IfNone r ((span : Ends) → IsShown span → text ≢ span_text d span)
-span_none d text None h e = λ span shown is. not_some (span_of d text) span (sym e) (ap (span_of d) is ∙ spans_are_read_lem d span h shown)
+span_none d text None h e = λ span shown is. not_some (span_of d text) span (sym e) (ap (span_of d) is ∙ span_again d span h shown)
 span_none d text (Some x) h e = tt
+
+-- ---- bytes that no span has
+
+lacks_cond : (b : ℕ) (t : Bool) (xs ys : List ℕ) → lacks b xs ≡ true → lacks b ys ≡ true → lacks b (cond t xs ys) ≡ true
+lacks_cond b true xs ys h k = h
+lacks_cond b false xs ys h k = k
+
+ends_lack : (b d lo hi : ℕ) → b < 46 ⊎ 57 < b → lo ≤ 10 ^ 37 → hi ≤ 10 ^ 37 → lacks b (ends_text d lo hi) ≡ true
+ends_lack b d lo hi h low high =
+    let dot : not (eqb 46 b) ≡ true = grind (arith, nat_tests) in
+    let rest : lacks b (46 ∷ 46 ∷ point_text d hi) ≡ true = rw dot (point_lacks b d hi h high) in
+    lacks_cond b (eqb lo hi) (point_text d lo) (point_text d lo ++ (46 ∷ 46 ∷ point_text d hi)) (point_lacks b d lo h low) (lacks_append b (point_text d lo) (46 ∷ 46 ∷ point_text d hi) (point_lacks b d lo h low) rest)
+
+magnitude-le : (x : ℤ) (m : ℕ) → pos 0 ≤ℤ x → x ≤ℤ pos m → magnitude x ≤ m
+magnitude-le (pos n) m h k = omega (arith, ints)
+magnitude-le (negsuc n) m h k = absurd (omega (arith, ints, h))
+
+span_lacks : (b d : ℕ) (span : Ends) → b < 46 ⊎ 57 < b → IsShown span → lacks b (span_text d span) ≡ true
+span_lacks b d span h shown =
+    let low : span.lo ≤ℤ pos (10 ^ 37) = omega (arith, ints, shown.ordered, shown.high) in
+    let positive : pos 0 ≤ℤ span.hi = omega (arith, ints, shown.low, shown.ordered) in
+    ends_lack b d (magnitude span.lo) (magnitude span.hi) h (magnitude-le span.lo (10 ^ 37) shown.low low) (magnitude-le span.hi (10 ^ 37) positive shown.high)
+
+pub spans_are_exact_lem : SpansAreExact
+spans_are_exact_lem = record {
+  spans = λ d text span decimals. (span_takes d text span (decimals_small d decimals).0, λ is. ap (span_of d) is.1 ∙ span_again d span decimals is.0);
+  digits = span_lacks;
+}

@@ -1,12 +1,14 @@
 //! Spans: numbers that are held between two whole ends, rounded outward, and their texts.
 #![tactic(auto)]
 
+mod laws;
 mod mixing;
 mod ordering;
 mod reading;
 mod span;
 mod writing;
 
+pub use laws::{spans_are_exact, verdicts_are_true};
 pub use mixing::mix;
 pub use ordering::{Verdict, compare};
 pub use reading::read_span;
