@@ -1,8 +1,8 @@
 -- Weighted sums, their floors and ceilings, and what a mix holds.
-use Rattle.std.proofs.Common.{ℕ, suc, ◌+◌, ◌*◌, ◌^◌, ◌≡◌, ◌≤◌, ◌<◌, ℤ, pos, ◌+ℤ◌, ◌*ℤ◌, ◌≤ℤ◌, ◌<ℤ◌, List, [], ◌∷◌, length, get_or, sum, refl, sym, ap, ◌∙◌, arith, subst}
+use Rattle.std.proofs.Common.{ℕ, suc, ◌+◌, ◌*◌, ◌≡◌, ℤ, pos, ◌+ℤ◌, ◌*ℤ◌, ◌≤ℤ◌, ◌<ℤ◌, List, [], ◌∷◌, length, get_or, sum, sym, ap, ◌∙◌, arith}
 use Rattle.std.specs.List.{All}
 use Rattle.std.proofs.lemmas.Int.{ints}
-use Rattle.fixed_span.specs.Span.{Ends, Fraction, Holds, IsWithin}
+use Rattle.fixed_span.specs.Span.{Ends, over, add, Holds, IsWithin}
 use Rattle.fixed_span.specs.Mix.{IsFloor, IsCeiling, weighted, lows, highs, AllHold, sum_of_four}
 use Rattle.fixed_span.proofs.Signed.{*ℤ-+ℤ, +ℤ-*ℤ, *ℤ_assoc, *ℤ-le, *ℤ-le_left, *ℤ-lt_back}
 
@@ -72,7 +72,7 @@ end_times : (r : ℤ) (q d : ℕ) → r *ℤ pos (q * d) ≡ (r *ℤ pos q) *ℤ
 end_times r q d = let e : pos (q * d) ≡ pos q *ℤ pos d = omega (arith, ints) in ap (λ z. r *ℤ z) e ∙ sym (*ℤ_assoc r (pos q) (pos d))
 
 pub mix_holds : (units : ℕ) (ws : List ℕ) (ss : List Ends) (xs : List ℤ) (d q : ℕ) (r : Ends) → IsFloor (weighted ws (lows ss)) q r.lo → IsCeiling (weighted ws (highs ss)) q r.hi
-    → AllHold units ss xs d → Holds units r (record { numerator = weighted ws xs; denominator = q * d })
+    → AllHold units ss xs d → Holds units r (over (weighted ws xs) (q * d))
 mix_holds units ws ss xs d q r f g h =
     let below = *ℤ-le (r.lo *ℤ pos q) (weighted ws (lows ss)) d f.below in
     let above = *ℤ-le (weighted ws (highs ss)) (r.hi *ℤ pos q) d g.above in
@@ -109,3 +109,13 @@ mix_width ws ss most q r four total f g h =
     let spread = +ℤ-*ℤ r.lo (pos (most + 2)) (pos q) in
     let strict : r.hi <ℤ (r.lo +ℤ pos (most + 2)) = *ℤ-lt_back r.hi (r.lo +ℤ pos (most + 2)) q (omega (arith, ints, room, spread)) in
     omega (arith, ints, strict)
+
+-- ---- sums of spans
+
+pub sum_holds : (units : ℕ) (a b : Ends) (x y : ℤ) (d : ℕ) → Holds units a (over x d) → Holds units b (over y d) → Holds units (add a b) (over (x +ℤ y) d)
+sum_holds units a b x y d h k =
+    let right = *ℤ-+ℤ (pos units) x y in
+    record {
+      low = omega (arith, ints, +ℤ-*ℤ a.lo b.lo (pos d), right, h.low, k.low);
+      high = omega (arith, ints, +ℤ-*ℤ a.hi b.hi (pos d), right, h.high, k.high);
+    }

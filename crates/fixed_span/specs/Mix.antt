@@ -1,6 +1,6 @@
 -- Weighted means of spans, rounded outward.
 use Rattle.std.specs.Prelude.{ℕ, ◌^◌, ℤ, pos, neg_ℤ, ◌+ℤ◌, ◌*ℤ◌, ◌≤ℤ◌, ◌<ℤ◌, List, [], ◌∷◌, map}
-use Rattle.fixed_span.specs.Span.{Ends, Fraction, Holds}
+use Rattle.fixed_span.specs.Span.{Ends, over, Holds}
 
 -- r is the greatest whole number with r * q ≤ x
 pub record IsFloor (x : ℤ) (q : ℕ) (r : ℤ) : Type 0 where
@@ -34,7 +34,7 @@ abbrev pub AllHold : ℕ → List Ends → List ℤ → ℕ → Type 0
 AllHold units [] [] denominator = Unit {0}
 AllHold units [] (x ∷ xs) denominator = ⊥
 AllHold units (span ∷ spans) [] denominator = ⊥
-AllHold units (span ∷ spans) (x ∷ xs) denominator = Holds units span (record { numerator = x; denominator = denominator }) × AllHold units spans xs denominator
+AllHold units (span ∷ spans) (x ∷ xs) denominator = Holds units span (over x denominator) × AllHold units spans xs denominator
 
 -- the sum of four weights, each times its number
 abbrev pub sum_of_four : ℕ → ℕ → ℕ → ℕ → ℤ → ℤ → ℤ → ℤ → ℤ

@@ -11,6 +11,9 @@ pub record Fraction : Type 0 where
   pub numerator : ℤ
   pub denominator : ℕ
 
+abbrev pub over : ℤ → ℕ → Fraction
+over numerator denominator = record { numerator = numerator; denominator = denominator }
+
 abbrev pub point : ℤ → Ends
 point v = record { lo = v; hi = v }
 

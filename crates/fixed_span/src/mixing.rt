@@ -1,6 +1,6 @@
 //! Weighted means of spans, rounded outward.
 ghost use Rattle.std.specs.Prelude.{◌≡◌, ℕ, ◌+◌, ◌*◌, ◌/◌, ◌^◌, ◌<◌, ◌≤◌, ℤ, pos, neg_ℤ, ◌+ℤ◌, ◌*ℤ◌, ◌≤ℤ◌, List, All, sum};
-ghost use Rattle.fixed_span.specs.Span.{Fraction, Holds, IsWithin};
+ghost use Rattle.fixed_span.specs.Span.{over, Holds, IsWithin};
 ghost use Rattle.fixed_span.specs.Mix.{IsFloor, IsCeiling, IsNear, weighted, lows, highs, AllHold, sum_of_four};
 
 use crate::Span;
@@ -136,7 +136,7 @@ pub fn mix(weights: [u64; 4], spans: [Span; 4], q: u64) -> Span
     requires ends { All IsNear spans }
     ensures lo { IsFloor (weighted weights (lows spans)) q result.lo }
     ensures hi { IsCeiling (weighted weights (highs spans)) q result.hi }
-    ensures contains { (units : ℕ) (xs : List ℤ) (denominator : ℕ) → AllHold units spans xs denominator → Holds units result (record { numerator = weighted weights xs; denominator = q * denominator }) }
+    ensures contains { (units : ℕ) (xs : List ℤ) (denominator : ℕ) → AllHold units spans xs denominator → Holds units result (over (weighted weights xs) (q * denominator)) }
     ensures width { (most : ℕ) → All (IsWithin most) spans → IsWithin (most + 1) result }
 {
     let [w0, w1, w2, w3] = weights;

@@ -1,5 +1,6 @@
 //! What lies between two whole ends.
 ghost use Rattle.std.specs.Prelude.{◌≡◌, ◌^◌, pos, neg_ℤ, ◌+ℤ◌, ◌≤ℤ◌};
+ghost use Rattle.fixed_span.specs.Span.{add, IsSmall};
 
 use std::marker::Model;
 
@@ -32,8 +33,21 @@ fn sum_of(a: i128, b: i128) -> i128
     a + b
 }
 
+fn added(a: Span, b: Span) -> Span
+    requires { IsSmall (add a b) }
+    ensures { result ≡ add a b }
+{
+    let (a_lo, a_hi) = a.ends();
+    let (b_lo, b_hi) = b.ends();
+    Span {
+        lo: sum_of(a_lo, b_lo),
+        hi: sum_of(a_hi, b_hi),
+    }
+}
+
 impl Span {
-    ghost use Rattle.fixed_span.specs.Span.{point, add, IsSmall};
+    ghost use Rattle.std.specs.Prelude.{ℕ, ℤ};
+    ghost use Rattle.fixed_span.specs.Span.{point, add, over, Holds, IsSmall};
 
     /// The point at a number.
     pub fn point(v: i128) -> Span
@@ -57,13 +71,9 @@ impl Span {
         requires first { IsSmall self }
         requires second { IsSmall other }
         requires sums { IsSmall (add self other) }
-        ensures { result ≡ add self other }
+        ensures sum { result ≡ add self other }
+        ensures contains { (units : ℕ) (x y : ℤ) (denominator : ℕ) → Holds units self (over x denominator) → Holds units other (over y denominator) → Holds units result (over (x +ℤ y) denominator) }
     {
-        let (lo, hi) = self.ends();
-        let (other_lo, other_hi) = other.ends();
-        Span {
-            lo: sum_of(lo, other_lo),
-            hi: sum_of(hi, other_hi),
-        }
+        added(self, other)
     }
 }

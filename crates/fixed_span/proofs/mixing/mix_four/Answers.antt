@@ -1,4 +1,4 @@
-use Rattle.std.proofs.Common.{ℕ, ◌^◌, ◌≡◌, pos, ◌+ℤ◌, ◌*ℤ◌, ap, ◌∙◌, ◌+◌, ◌*◌, arith}
+use Rattle.std.proofs.Common.{◌^◌, ◌≡◌, pos, ap, ◌∙◌, ◌+◌, ◌*◌, arith}
 use Rattle.fixed_span.proofs.Means.{raised_sum, floor_lowered, ceiling_lowered}
 use Rattle.fixed_span.proofs.mixing.mix_four.Goals as goal
 
