@@ -1,5 +1,5 @@
 -- Sureness by the weights of a sheet.
-use Rattle.std.proofs.Common.{◌≡◌, ℕ, ◌-◌, ◌*◌, ◌%◌, ◌||◌, ◌&&◌, ◌==◌, true, List, [], ◌∷◌, ◌++◌, All, map, slice_index, refl, ap, arith}
+use Rattle.std.proofs.Common.{◌≡◌, ℕ, ◌-◌, ◌*◌, ◌%◌, ◌||◌, ◌&&◌, ◌==◌, true, List, [], ◌∷◌, map, slice_index, refl, ap, arith}
 use Rattle.std.proofs.lemmas.Bool.Decides.{nat_tests}
 use Rattle.std.specs.List.{list_all, range_with_len}
 use Rattle.history_model.specs.Automaton.{Row}
