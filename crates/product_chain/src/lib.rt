@@ -2,6 +2,8 @@
 //! rows of two automata, computed turn by turn, with ends that hold the exact fraction.
 #![tactic(auto)]
 
+mod course;
 mod scores;
+mod side;
 
 pub use scores::expect;
