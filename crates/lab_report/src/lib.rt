@@ -5,6 +5,7 @@ mod lists;
 mod making;
 mod reading;
 mod report;
+mod rules;
 mod state;
 mod writing;
 

@@ -1,5 +1,5 @@
 -- A line is read exactly from its text.
-use Rattle.std.proofs.Common.{◌≡◌, ℕ, ◌+◌, ◌*◌, ◌^◌, ◌<◌, ◌≤◌, Bool, true, false, cond, eqb, leb, ltb, ◌&&◌, not, List, [], ◌∷◌, ◌++◌, Option, Some, None, refl, sym, ap, subst, ◌∙◌, append_assoc, arith, inl, inr, ◌⊎◌}
+use Rattle.std.proofs.Common.{◌≡◌, ℕ, ◌+◌, ◌*◌, ◌^◌, ◌<◌, ◌≤◌, Bool, true, false, cond, eqb, ◌&&◌, List, [], ◌∷◌, ◌++◌, Option, Some, None, refl, sym, ap, subst, ◌∙◌, append_assoc, arith, inl, inr, ◌⊎◌}
 use Rattle.std.specs.Prelude.{codes}
 use Rattle.std.specs.Fmt.{decimal}
 use Rattle.std.specs.List.{list_all}
@@ -10,21 +10,20 @@ use Rattle.history_model.specs.declared.tally.Tally.{Tally}
 use Rattle.history_model.specs.Game.{Payoffs, magnitude}
 use Rattle.history_model.specs.Name.{is_name, is_name_byte}
 use Rattle.history_model.specs.Noise.{FlipRate}
-use Rattle.texts.specs.Cuts.{before, behind, lacks, CutsAreExact}
+use Rattle.texts.specs.Cuts.{lacks, CutsAreExact}
 use Rattle.texts.specs.Numbers.{◌>>=◌, small, point_text, IsNoDigit, NumbersAreExact, PointsAreExact}
 use Rattle.fixed_span.specs.Span.{Ends}
-use Rattle.fixed_span.specs.Texts.{span_of, span_text, ends_text, SpansAreRead}
+use Rattle.fixed_span.specs.Texts.{ends_text, SpansAreRead}
 use Rattle.fixed_span.specs.Verdict.{verdict}
 use Rattle.fixed_span.specs.declared.ordering.Verdict.{Verdict}
 use Rattle.fixed_span.specs.declared.ordering.Verdict.TheVariants as verdicts
-use Rattle.report_lines.specs.declared.line.Kind.{Kind}
 use Rattle.report_lines.specs.declared.line.Kind.TheVariants as kinds
 use Rattle.report_lines.specs.declared.line.ShownMatch.{ShownMatch}
 use Rattle.report_lines.specs.declared.line.Line.{Line}
 use Rattle.report_lines.specs.declared.line.Line.TheVariants as lines
-use Rattle.report_lines.specs.Texts.{kind_word, dilemma_word, is_dilemma, game_text, noise_text, players_text, score_text, winner_word, scores_text, counts_text, match_text, line_text, is_payoff, are_payoffs, is_noise, is_turns, is_score, counts_are, is_match, is_line}
-use Rattle.report_lines.specs.Reading.{field, rest, name_of, score_of, kind_of, payoff_of, game_of, in_range, noise_of, tally_of, counts_of, scores_of, match_of, guess, if_text, line_of, LinesAreExact}
-use Rattle.report_lines.proofs.InRange.{both_true, GameParts, game_parts, payoff_few, noise_few, turns_few, score_shown, score_few, CountsFew, counts_few, MatchParts, match_parts}
+use Rattle.report_lines.specs.Texts.{dilemma_word, is_dilemma, game_text, noise_text, players_text, score_text, winner_word, scores_text, counts_text, match_text, line_text, is_payoff, are_payoffs, is_noise, is_score, counts_are, is_match, is_line}
+use Rattle.report_lines.specs.Reading.{rest, name_of, score_of, kind_of, payoff_of, game_of, noise_of, tally_of, counts_of, scores_of, match_of, guess, if_text, line_of, LinesAreExact}
+use Rattle.report_lines.proofs.InRange.{both_true, game_parts, payoff_few, noise_few, score_shown, score_few, CountsFew, counts_few, MatchParts, match_parts}
 
 -- the laws of the crates below
 pub record Below : Type 0 where

@@ -1,5 +1,5 @@
 -- Reading a line: its fields are read as if it were one, and the line is kept where it is in range and has this very text.
-use Rattle.std.specs.Prelude.{codes, ◌≡◌, ℕ, ◌&&◌, Bool, true, List, Option, Some, None, if◌then◌else◌}
+use Rattle.std.specs.Prelude.{codes, ◌≡◌, ℕ, ◌&&◌, true, List, Option, Some, None, if◌then◌else◌}
 use Rattle.std.specs.Str.{bytes_eq}
 use Rattle.history_model.specs.declared.tally.Tally.{Tally}
 use Rattle.history_model.specs.Game.{Payoffs}

@@ -4,7 +4,6 @@
 mod laws;
 mod line;
 mod reading;
-mod scores;
 mod writing;
 
 pub use laws::lines_are_exact;

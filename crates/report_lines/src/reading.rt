@@ -2,12 +2,11 @@
 ghost use Rattle.std.specs.Prelude.{◌≡◌, ◌≤◌, true, IfOk, IfSome};
 ghost use Rattle.std.specs.Str.{bytes_eq};
 ghost use Rattle.report_lines.specs.Texts.{is_payoff, are_payoffs, is_noise, is_turns, is_score, counts_are, is_match, is_line};
-ghost use Rattle.report_lines.specs.Reading.{name_of, kind_of, payoff_of, game_of, noise_of, tally_of, counts_of, scores_of, match_of, guess, line_of};
+ghost use Rattle.report_lines.specs.Reading.{name_of, score_of, kind_of, payoff_of, game_of, noise_of, tally_of, counts_of, scores_of, match_of, guess, line_of};
 
-use crate::scores::score_of;
 use crate::writing::push_line;
 use crate::{Kind, Line, ShownMatch};
-use fixed_span::Span;
+use fixed_span::{Span, read_span};
 use history_model::{Game, Name, Noise, Tally};
 use std::alloc::AllocError;
 use texts::{cut, small};
@@ -22,6 +21,12 @@ fn name_of(text: &[u8]) -> Option<Name>
     ensures { result ≡ name_of text.now }
 {
     Name::read(text)
+}
+
+fn score_of(text: &[u8]) -> Option<Span>
+    ensures { result ≡ score_of text.now }
+{
+    read_span(text, 12)
 }
 
 #[tactic(auto, unfolding(crate::specs::Reading::kind_of))]

@@ -2,11 +2,10 @@
 ghost use Rattle.std.specs.Prelude.{◌≡◌, ◌≤◌, ◌^◌, ◌++◌, true, Some, OnOk, string_bytes};
 ghost use Rattle.history_model.specs.Tally.{total};
 ghost use Rattle.fixed_span.specs.Verdict.{verdict};
-ghost use Rattle.report_lines.specs.Texts.{kind_word, head_text, is_dilemma, dilemma_word, game_text, noise_text, players_text, score_text, winner_word, scores_text, counts_text, match_text, line_text, is_score, is_match, counts_are, is_line};
+ghost use Rattle.report_lines.specs.Texts.{kind_word, head_text, is_dilemma, dilemma_word, game_text, noise_text, players_text, winner_word, scores_text, counts_text, match_text, line_text, is_score, is_match, counts_are, is_line};
 
-use crate::scores::add_score;
 use crate::{Kind, Line, ShownMatch};
-use fixed_span::{Span, Verdict, compare};
+use fixed_span::{ScoreSpan, Span, Verdict, compare};
 use history_model::{Game, Noise, Tally};
 use std::alloc::AllocError;
 
@@ -71,11 +70,10 @@ fn add_scores(text: &mut String, left: Span, right: Span) -> Result<(), AllocErr
     requires right { is_score right ≡ true }
     ensures { OnOk result (string_bytes text.new ≡ string_bytes text.old ++ scores_text left right) }
 {
-    add_score(text, left)?;
-    text.push_str("|")?;
-    add_score(text, right)?;
     let word = winner_word(left, right);
-    write!(text, "|{word}|")
+    let left = ScoreSpan { span: left };
+    let right = ScoreSpan { span: right };
+    write!(text, "{left}|{right}|{word}|")
 }
 
 fn add_tally(text: &mut String, tally: &Tally) -> Result<(), AllocError>
