@@ -67,15 +67,17 @@ impl Names {
     }
 
     /// The place of a name, which comes behind the others where it is new.
+    #[tactic(auto, using(crate::proofs::Places::with_old, crate::proofs::Places::with_new, crate::proofs::Places::place_new, crate::proofs::Places::place_le))]
     pub(crate) fn place(&mut self, name: &Name) -> Result<u32, AllocFailed<Name>>
         requires room { length self.old < 2 ^ 32 - 1 }
         ensures place { IfOk result (λ place. place ≡ place_in self.new name.now) }
         ensures names { OnOk result (self.new ≡ with_name self.old name.now) }
     {
         let place = place_in(&self.items, name);
-        if place as usize == self.items.len() {
-            self.push(name)?;
+        if (place as usize) < self.items.len() {
+            return Ok(place);
         }
+        self.push(name)?;
         Ok(place)
     }
 }

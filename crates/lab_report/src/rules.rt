@@ -136,24 +136,40 @@ pub(crate) fn after(alloc: Global, state: State, next: Line) -> Result<State, Al
     requires { HasRoom state }
     ensures { IfOk result (λ new. new ≡ after state next) }
 {
-    match (state, next) {
-        (State::Start, Line::Head(kind)) => Ok(State::AfterHead { kind }),
-        (State::AfterHead { kind }, Line::Game(game)) => Ok(State::AfterGame { kind, game }),
-        (State::AfterGame { kind, game }, Line::Noise(noise)) => Ok(State::InBody {
-            game,
-            noise,
-            names: Names::new(alloc),
-            body: no_lines(kind),
-        }),
-        (
-            State::InBody {
+    match state {
+        State::Start => match next {
+            Line::Head(kind) => Ok(State::AfterHead { kind }),
+            _ => Ok(State::Start),
+        },
+        State::AfterHead { kind } => match next {
+            Line::Game(game) => Ok(State::AfterGame { kind, game }),
+            _ => Ok(State::AfterHead { kind }),
+        },
+        State::AfterGame { kind, game } => match next {
+            Line::Noise(noise) => Ok(State::InBody {
                 game,
                 noise,
-                names,
-                body,
-            },
-            next,
-        ) => after_in_body(game, noise, names, body, next),
-        (state, _) => Ok(state),
+                names: Names::new(alloc),
+                body: no_lines(kind),
+            }),
+            _ => Ok(State::AfterGame { kind, game }),
+        },
+        State::InBody {
+            game,
+            noise,
+            names,
+            body,
+        } => after_in_body(game, noise, names, body, next),
+        State::Ended {
+            game,
+            noise,
+            names,
+            body,
+        } => Ok(State::Ended {
+            game,
+            noise,
+            names,
+            body,
+        }),
     }
 }
