@@ -1,6 +1,7 @@
 //! Reports, and their texts both ways.
 #![tactic(auto)]
 
+mod laws;
 mod lists;
 mod making;
 mod reading;
@@ -9,6 +10,7 @@ mod rules;
 mod state;
 mod writing;
 
+pub use laws::one_report_a_text;
 pub use lists::{Names, Noises};
 pub use making::match_report;
 pub use reading::{ReportError, read_report};

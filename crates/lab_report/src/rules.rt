@@ -1,7 +1,7 @@
 //! Which line may follow which, and what it leaves.
-ghost use Rattle.std.specs.Prelude.{◌≡◌, ◌≤◌, ◌^◌, true, length, IfOk, OnOk};
+ghost use Rattle.std.specs.Prelude.{◌≡◌, ◌≤◌, ◌^◌, true, [], IfOk, OnOk};
 ghost use Rattle.report_lines.specs.Texts.{counts_are, is_match, is_line};
-ghost use Rattle.lab_report.specs.Grammar.{is_paid, pays, match_allows, body_allows, allows, no_lines, names_with_match, placed_match, after_in_body, after, HasRoom};
+ghost use Rattle.lab_report.specs.Grammar.{is_paid, pays, match_allows, body_allows, allows, no_lines, names_with_match, placed_match, after_in_body, after, HasRoom, StateHasRoom};
 
 use crate::state::{BodySoFar, State};
 use crate::{Body, Names};
@@ -79,7 +79,7 @@ fn no_lines(kind: Kind) -> BodySoFar
 
 // The match with places in place of its names, which come behind all others where they are new.
 fn placed_match(names: &mut Names, found: &ShownMatch) -> Result<MatchLine, AllocFailed<Name>>
-    requires { length names.old ≤ 2 }
+    requires { names.old ≡ [] }
     ensures line { IfOk result (λ line. line ≡ placed_match names.old found.now) }
     ensures names { OnOk result (names.new ≡ names_with_match names.old found.now) }
 {
@@ -103,7 +103,7 @@ fn after_in_body(
     body: BodySoFar,
     next: Line,
 ) -> Result<State, AllocFailed<Name>>
-    requires { length names ≤ 2 }
+    requires { HasRoom body names }
     ensures { IfOk result (λ state. state ≡ after_in_body game noise names body next) }
 {
     match (body, next) {
@@ -133,7 +133,7 @@ fn after_in_body(
 
 /// What a line leaves behind those that led to the state.
 pub(crate) fn after(alloc: Global, state: State, next: Line) -> Result<State, AllocFailed<Name>>
-    requires { HasRoom state }
+    requires { StateHasRoom state }
     ensures { IfOk result (λ new. new ≡ after state next) }
 {
     match state {
