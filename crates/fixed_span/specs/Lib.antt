@@ -1,3 +1,4 @@
+pub mod Mix
 pub mod Span
 pub mod Texts
 pub mod Verdict

@@ -1,5 +1,5 @@
 -- Spans of whole numbers, and the fractions that they hold.
-use Rattle.std.specs.Prelude.{ℕ, ℤ, pos, ◌+ℤ◌, ◌*ℤ◌, ◌≤ℤ◌}
+use Rattle.std.specs.Prelude.{ℕ, ◌^◌, ℤ, pos, neg_ℤ, ◌+ℤ◌, ◌*ℤ◌, ◌≤ℤ◌}
 
 -- the two ends of a span, in units
 pub record Ends : Type 0 where
@@ -10,6 +10,9 @@ pub record Ends : Type 0 where
 pub record Fraction : Type 0 where
   pub numerator : ℤ
   pub denominator : ℕ
+
+abbrev pub over : ℤ → ℕ → Fraction
+over numerator denominator = record { numerator = numerator; denominator = denominator }
 
 abbrev pub point : ℤ → Ends
 point v = record { lo = v; hi = v }
@@ -33,3 +36,8 @@ IsWithin width span = span.hi ≤ℤ (span.lo +ℤ pos width)
 -- the sums of the ends
 abbrev pub add : Ends → Ends → Ends
 add a b = record { lo = a.lo +ℤ b.lo; hi = a.hi +ℤ b.hi }
+
+-- both ends lie between -10^37 and 10^37
+pub record IsSmall (span : Ends) : Type 0 where
+  pub low : neg_ℤ (pos (10 ^ 37)) ≤ℤ span.lo
+  pub high : span.hi ≤ℤ pos (10 ^ 37)

@@ -1,6 +1,7 @@
 -- The texts of spans.
-use Rattle.std.specs.Prelude.{◌≡◌, ℕ, ◌^◌, ◌&&◌, ◌==◌, nat_lt, ℤ, pos, ◌≤ℤ◌, ◌⊎◌, List, [], ◌∷◌, ◌++◌, length, Option, Some, None, if◌then◌else◌}
+use Rattle.std.specs.Prelude.{◌≡◌, ◌↔◌, ◌<◌, ℕ, ◌^◌, ◌&&◌, ◌==◌, nat_lt, pos, ◌≤ℤ◌, ◌⊎◌, List, [], ◌∷◌, ◌++◌, length, Option, Some, None, if◌then◌else◌, true}
 use Rattle.history_model.specs.Game.{magnitude}
+use Rattle.texts.specs.Cuts.{lacks}
 use Rattle.texts.specs.Numbers.{point_text, point_at, ◌>>=◌}
 use Rattle.fixed_span.specs.Span.{Ends}
 
@@ -40,6 +41,9 @@ span_of decimals text = do
   low ← point_at decimals text
   span_from decimals low.0 low.1
 
--- a span that is shown is read from its text
-abbrev pub SpansAreRead : Type 0
-SpansAreRead = (decimals : ℕ) (span : Ends) → IsDecimals decimals → IsShown span → span_of decimals (span_text decimals span) ≡ Some span
+-- ---- laws
+
+-- a span is read from a text exactly where it is shown by it, which is digits and `.` alone
+pub record SpansAreExact : Type 0 where
+  pub spans : (decimals : ℕ) (text : List ℕ) (span : Ends) → IsDecimals decimals → (span_of decimals text ≡ Some span) ↔ (IsShown span × (text ≡ span_text decimals span))
+  pub digits : (byte decimals : ℕ) (span : Ends) → (byte < 46) ⊎ (57 < byte) → IsShown span → lacks byte (span_text decimals span) ≡ true

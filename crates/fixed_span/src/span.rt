@@ -1,5 +1,6 @@
 //! What lies between two whole ends.
-ghost use Rattle.std.specs.Prelude.{◌≡◌};
+ghost use Rattle.std.specs.Prelude.{◌≡◌, ◌^◌, pos, neg_ℤ, ◌+ℤ◌, ◌≤ℤ◌};
+ghost use Rattle.fixed_span.specs.Span.{add, IsSmall};
 
 use std::marker::Model;
 
@@ -24,9 +25,29 @@ impl Model for Span {
     ghost inverse = { λ v. record { lo = v.lo; hi = v.hi } };
 }
 
+fn sum_of(a: i128, b: i128) -> i128
+    requires low { neg_ℤ (pos (10 ^ 37)) ≤ℤ (a +ℤ b) }
+    requires high { (a +ℤ b) ≤ℤ pos (10 ^ 37) }
+    ensures { result ≡ a +ℤ b }
+{
+    a + b
+}
+
+fn added(a: Span, b: Span) -> Span
+    requires { IsSmall (add a b) }
+    ensures { result ≡ add a b }
+{
+    let (a_lo, a_hi) = a.ends();
+    let (b_lo, b_hi) = b.ends();
+    Span {
+        lo: sum_of(a_lo, b_lo),
+        hi: sum_of(a_hi, b_hi),
+    }
+}
+
 impl Span {
-    ghost use Rattle.std.specs.Prelude.{◌≤ℤ◌};
-    ghost use Rattle.fixed_span.specs.Span.{point};
+    ghost use Rattle.std.specs.Prelude.{ℕ, ℤ};
+    ghost use Rattle.fixed_span.specs.Span.{point, add, over, Holds, IsSmall};
 
     /// The point at a number.
     pub fn point(v: i128) -> Span
@@ -42,5 +63,17 @@ impl Span {
         ensures ordered { result.0 ≤ℤ result.1 }
     {
         (self.lo, self.hi)
+    }
+
+    /// The sums of the ends, which hold the sum of any two numbers that the spans hold. All ends and
+    /// both sums are from -10^37 to 10^37.
+    pub fn add(self, other: Span) -> Span
+        requires first { IsSmall self }
+        requires second { IsSmall other }
+        requires sums { IsSmall (add self other) }
+        ensures sum { result ≡ add self other }
+        ensures contains { (units : ℕ) (x y : ℤ) (denominator : ℕ) → Holds units self (over x denominator) → Holds units other (over y denominator) → Holds units result (over (x +ℤ y) denominator) }
+    {
+        added(self, other)
     }
 }

@@ -108,6 +108,9 @@ point_from d whole part v text rest tail fits same cut_is rest_is =
     let r : v % 10 ^ d ≡ part = ap (λ (k : ℕ). k % 10 ^ d) (sym same) ∙ mod-mul-add whole (10 ^ d) part fits in
     rw (q, r) (cut_is ∙ ap (λ (t : List ℕ). decimal whole ++ 46 ∷ t) rest_is ∙ sym (append_assoc (decimal whole) (46 ∷ zero_padded d (decimal part)) tail))
 
+point_is : (d v : ℕ) (text tail : List ℕ) (x : ℕ × List ℕ) → x ≡ (v, tail) → text ≡ point_text d x.0 ++ x.1 → x.0 ≤ 10 ^ 37 → (text ≡ point_text d v ++ tail) × (v ≤ 10 ^ 37)
+point_is d v text tail x same made small = subst (λ (y : ℕ × List ℕ). (text ≡ point_text d y.0 ++ y.1) × (y.0 ≤ 10 ^ 37)) same (made, small)
+
 pub point_takes : (d : ℕ) (text : List ℕ) (v : ℕ) (tail : List ℕ) → 0 < d → point_at d text ≡ Some (v, tail) → (text ≡ point_text d v ++ tail) × (v ≤ 10 ^ 37)
 unfolding point_at
 point_takes d text v tail pos e =
@@ -118,12 +121,11 @@ point_takes d text v tail pos e =
     let whole = number_takes (before 46 text) a.0 a.1 in
     let part = part_takes d (take d (behind 46 text)) b.0 pos b.1 in
     let units = units_takes d a.0 b.0 c.0 c.1 in
-    let both : (c.0, drop d (behind 46 text)) ≡ (v, tail) = some_is (c.0, drop d (behind 46 text)) (v, tail) c.2 in
     let some : 0 < length (behind 46 text) = omega (arith, part.1, pos, length-take d (behind 46 text)) in
     let cut_is : text ≡ decimal a.0 ++ 46 ∷ behind 46 text = cut_back 46 text some ∙ ap (λ (t : List ℕ). t ++ 46 ∷ behind 46 text) whole.0 in
     let rest_is : behind 46 text ≡ zero_padded d (decimal b.0) ++ drop d (behind 46 text) = sym (take-append-drop d (behind 46 text)) ∙ ap (λ (t : List ℕ). t ++ drop d (behind 46 text)) part.0 in
     let made = point_from d a.0 b.0 c.0 text (behind 46 text) (drop d (behind 46 text)) part.2 units.0 cut_is rest_is in
-    subst (λ (x : ℕ × List ℕ). (text ≡ point_text d x.0 ++ x.1) × (x.0 ≤ 10 ^ 37)) both (made, units.1)
+    point_is d v text tail (c.0, drop d (behind 46 text)) (some_is (c.0, drop d (behind 46 text)) (v, tail) c.2) made units.1
 
 units_again : (d v : ℕ) → v ≤ 10 ^ 37 → units_of d (v / 10 ^ d) (v % 10 ^ d) ≡ Some v
 units_again d v small =

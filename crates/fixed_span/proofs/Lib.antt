@@ -1,0 +1,4 @@
+pub mod Signed
+pub mod Means
+pub mod TextLaws
+pub mod Verdicts

@@ -1,0 +1,56 @@
+//! Worked texts.
+use crate::{Chance, Score, cut, first_line, number_of, small, value_of};
+use std::test::Fail;
+
+#[test]
+fn reads_numbers(rt: HostRuntime) {
+    let texts: [(&str, Option<u64>); 9] = [
+        ("0", Some(0)),
+        ("907", Some(907)),
+        ("18446744073709551615", Some(18_446_744_073_709_551_615)),
+        ("18446744073709551616", None),
+        ("00", None),
+        ("07", None),
+        ("", None),
+        ("+1", None),
+        ("1 ", None),
+    ];
+    for (text, n) in texts {
+        assert_eq!(rt; small(text.as_bytes()), n, "at {text}");
+    }
+    let most = 99_999_999_999_999_999_999_999_999_999_999_999_999;
+    let nines = b"99999999999999999999999999999999999999";
+    assert_eq!(rt; number_of(nines), Some(most));
+    assert_eq!(rt; number_of(b"100000000000000000000000000000000000000"), None);
+    assert_eq!(rt; (value_of(b"007"), value_of(b"7.")), (Some(7), None));
+}
+
+#[test]
+fn cuts_texts(rt: HostRuntime) {
+    let (front, rest) = cut(b"a|b|c", b'|');
+    assert_eq!(rt; front, "a".as_bytes());
+    assert_eq!(rt; rest, "b|c".as_bytes());
+    let (whole, nothing) = cut(b"abc", b'|');
+    assert_eq!(rt; whole, "abc".as_bytes());
+    assert_eq!(rt; nothing, "".as_bytes());
+    let lines = first_line(b"\nb\n");
+    assert_eq!(rt; lines.is_some(), true);
+    if let Some((line, rest)) = lines {
+        assert_eq!(rt; line, "".as_bytes());
+        assert_eq!(rt; rest, "b\n".as_bytes());
+    }
+    assert_eq!(rt; first_line(b"end").is_none(), true);
+}
+
+#[test]
+fn prints_points(rt: HostRuntime) -> Result<(), Fail> {
+    let score = Score {
+        units: 2_000_000_000_034,
+    };
+    let chance = Chance {
+        units: 1_000_000_000,
+    };
+    let text = format!(in rt.alloc(); "{score}|{chance}")?;
+    assert_eq!(rt; text.as_str(), "2.000000000034|1.000000000");
+    Ok(())
+}
