@@ -1,11 +1,11 @@
 -- What the tests of a line say.
-use Rattle.std.proofs.Common.{◌≡◌, ℕ, ◌*◌, ◌^◌, ◌≤◌, Bool, true, false, leb, ◌&&◌, ℤ, pos, negsuc, ◌≤ℤ◌, Some, refl, arith}
+use Rattle.std.proofs.Common.{◌≡◌, ℕ, ◌*◌, ◌^◌, ◌≤◌, Bool, true, false, leb, ◌&&◌, ℤ, pos, ◌≤ℤ◌, Some, refl, arith}
 use Rattle.std.specs.Prelude.{int_le}
 use Rattle.std.proofs.lemmas.Bool.{eqb-true}
 use Rattle.std.proofs.lemmas.Bool.Decides.{nat_tests}
 use Rattle.std.proofs.lemmas.Int.{ints}
 use Rattle.history_model.specs.declared.tally.Tally.{Tally}
-use Rattle.history_model.specs.Game.{Payoffs, magnitude}
+use Rattle.history_model.specs.Game.{Payoffs}
 use Rattle.history_model.specs.Name.{is_name}
 use Rattle.history_model.specs.Noise.{FlipRate}
 use Rattle.history_model.specs.Tally.{total}
@@ -86,13 +86,3 @@ match_parts m h =
     let c = both_true (is_turns m.turns) (is_score m.left_score) b.0 in
     let d = both_true (is_score m.right_score) (counts_are m.turns m.tally) b.1 in
     record { left = n.0; right = n.1; turns = turns_few m.turns c.0; left_score = c.1; right_score = d.0; counts = d.1 }
-
-magnitude_few : (x : ℤ) → x ≤ℤ pos (10 ^ 37) → magnitude x ≤ 10 ^ 37
-magnitude_few (pos n) h = omega (arith, ints, h)
-magnitude_few (negsuc n) h = omega arith
-
-pub score_few : (score : Ends) → is_score score ≡ true → (magnitude score.lo ≤ 10 ^ 37) × (magnitude score.hi ≤ 10 ^ 37)
-score_few score h =
-    let s = score_shown score h in
-    let low : score.lo ≤ℤ pos (10 ^ 37) = omega (arith, ints, s.ordered, s.high) in
-    (magnitude_few score.lo low, magnitude_few score.hi s.high)

@@ -7,13 +7,13 @@ use Rattle.std.specs.Str.{bytes_eq}
 use Rattle.std.proofs.lemmas.Bool.Decides.{nat_tests}
 use Rattle.std.proofs.lemmas.Slice.Eq.{bytes_eq-Decides}
 use Rattle.history_model.specs.declared.tally.Tally.{Tally}
-use Rattle.history_model.specs.Game.{Payoffs, magnitude}
+use Rattle.history_model.specs.Game.{Payoffs}
 use Rattle.history_model.specs.Name.{is_name, is_name_byte}
 use Rattle.history_model.specs.Noise.{FlipRate}
 use Rattle.texts.specs.Cuts.{lacks, CutsAreExact}
-use Rattle.texts.specs.Numbers.{◌>>=◌, small, point_text, IsNoDigit, NumbersAreExact, PointsAreExact}
+use Rattle.texts.specs.Numbers.{◌>>=◌, small, IsNoDigit, NumbersAreExact}
 use Rattle.fixed_span.specs.Span.{Ends}
-use Rattle.fixed_span.specs.Texts.{ends_text, SpansAreRead}
+use Rattle.fixed_span.specs.Texts.{SpansAreExact}
 use Rattle.fixed_span.specs.Verdict.{verdict}
 use Rattle.fixed_span.specs.declared.ordering.Verdict.{Verdict}
 use Rattle.fixed_span.specs.declared.ordering.Verdict.TheVariants as verdicts
@@ -23,14 +23,13 @@ use Rattle.report_lines.specs.declared.line.Line.{Line}
 use Rattle.report_lines.specs.declared.line.Line.TheVariants as lines
 use Rattle.report_lines.specs.Texts.{dilemma_word, is_dilemma, game_text, noise_text, players_text, score_text, winner_word, scores_text, counts_text, match_text, line_text, is_payoff, are_payoffs, is_noise, is_score, counts_are, is_match, is_line}
 use Rattle.report_lines.specs.Reading.{rest, name_of, score_of, kind_of, payoff_of, game_of, noise_of, tally_of, counts_of, scores_of, match_of, guess, if_text, line_of, LinesAreExact}
-use Rattle.report_lines.proofs.InRange.{both_true, game_parts, payoff_few, noise_few, score_shown, score_few, CountsFew, counts_few, MatchParts, match_parts}
+use Rattle.report_lines.proofs.InRange.{both_true, game_parts, payoff_few, noise_few, score_shown, CountsFew, counts_few, MatchParts, match_parts}
 
 -- the laws of the crates below
 pub record Below : Type 0 where
   pub cuts : CutsAreExact
   pub numbers : NumbersAreExact
-  pub points : PointsAreExact
-  pub spans : SpansAreRead
+  pub spans : SpansAreExact
 
 -- ---- fields
 
@@ -72,26 +71,11 @@ lacks_either b false xs ys h k = k
 bar_outside : (b : ℕ) → IsBar b → (b < 46) ⊎ (57 < b)
 bar_outside b h = grind arith
 
-dots_lack : (b : ℕ) (text : List ℕ) → IsBar b → lacks b text ≡ true → lacks b (46 ∷ 46 ∷ text) ≡ true
-dots_lack b text h k =
-    let other : eqb 46 b ≡ false = grind (arith, nat_tests) in
-    rw other k
-
-ends_lack : Below → (b lo hi : ℕ) → IsBar b → lo ≤ 10 ^ 37 → hi ≤ 10 ^ 37 → lacks b (ends_text 12 lo hi) ≡ true
-ends_lack l b lo hi h low high =
-    let out : (b < 46) ⊎ (57 < b) = bar_outside b h in
-    let first : lacks b (point_text 12 lo) ≡ true = l.points.digits b 12 lo out low in
-    let last : lacks b (point_text 12 hi) ≡ true = l.points.digits b 12 hi out high in
-    lacks_either b (eqb lo hi) (point_text 12 lo) (point_text 12 lo ++ (46 ∷ 46 ∷ point_text 12 hi)) first
-    (l.cuts.together b (point_text 12 lo) (46 ∷ 46 ∷ point_text 12 hi) first (dots_lack b (point_text 12 hi) h last))
-
 score_lacks : Below → (b : ℕ) (score : Ends) → IsBar b → is_score score ≡ true → lacks b (score_text score) ≡ true
-score_lacks l b score h e =
-    let few = score_few score e in
-    ends_lack l b (magnitude score.lo) (magnitude score.hi) h few.0 few.1
+score_lacks l b score h e = l.spans.digits b 12 score (bar_outside b h) (score_shown score e)
 
 score_again : Below → (score : Ends) → is_score score ≡ true → score_of (score_text score) ≡ Some score
-score_again l score h = l.spans 12 score (inr refl) (score_shown score h)
+score_again l score h = (l.spans.spans 12 (score_text score) score (inr refl)).1 (score_shown score h, refl)
 
 -- ---- a line is guessed from its text
 

@@ -1,7 +1,8 @@
 //! Laws about lines.
 ghost use Rattle.report_lines.specs.Reading.{LinesAreExact};
 
-use texts::{cuts_are_exact, numbers_are_exact, points_are_exact};
+use fixed_span::spans_are_exact;
+use texts::{cuts_are_exact, numbers_are_exact};
 
 /// Exactly the texts of lines in range are read, and none of them has an LF.
 pub fn lines_are_exact()
@@ -9,5 +10,5 @@ pub fn lines_are_exact()
 {
     cuts_are_exact();
     numbers_are_exact();
-    points_are_exact();
+    spans_are_exact();
 }

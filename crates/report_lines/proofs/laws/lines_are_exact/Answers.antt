@@ -1,6 +1,5 @@
-use Rattle.fixed_span.proofs.TextLaws.{spans_are_read_lem}
 use Rattle.report_lines.proofs.LineLaws.{exact}
 use Rattle.report_lines.proofs.laws.lines_are_exact.Goals as goal
 
 pub returns : goal.returns
-returns c = exact (record { cuts = c.cuts_are_exact.ensures; numbers = c.numbers_are_exact.ensures; points = c.points_are_exact.ensures; spans = spans_are_read_lem })
+returns c = exact (record { cuts = c.cuts_are_exact.ensures; numbers = c.numbers_are_exact.ensures; spans = c.spans_are_exact.ensures })
