@@ -1,5 +1,5 @@
 -- Which line may follow which.
-use Rattle.std.specs.Prelude.{ℕ, ◌*◌, ◌&&◌, Bool, true, false, pos, List, [], Option, Some, None}
+use Rattle.std.specs.Prelude.{ℕ, ◌≡◌, ◌*◌, ◌&&◌, Bool, true, false, pos, List, [], Option, Some, None}
 use Rattle.std.specs.Ordering.{int_eq}
 use Rattle.history_model.specs.declared.tally.Tally.{Tally}
 use Rattle.history_model.specs.Game.{Payoffs}
@@ -82,6 +82,15 @@ after (states.AfterHead kind) (lines.Game game) = states.AfterGame kind game
 after (states.AfterGame kind game) (lines.Noise noise) = states.InBody game noise [] (no_lines kind)
 after (states.InBody game noise names body) i = after_in_body game noise names body i
 after state _ = state
+
+-- so few names so far that those of one more line have places
+abbrev pub HasRoom : BodySoFar → List (List ℕ) → Type 0
+HasRoom (parts.Match None) names = names ≡ []
+HasRoom (parts.Match (Some line)) names = Unit {0}
+
+abbrev pub StateHasRoom : State → Type 0
+StateHasRoom (states.InBody game noise names body) = HasRoom body names
+StateHasRoom _ = Unit {0}
 
 abbrev pub is_ended : State → Bool
 is_ended (states.Ended game noise names body) = true

@@ -1,9 +1,10 @@
 -- What reading a report answers.
-use Rattle.std.specs.Prelude.{ℕ, ◌≡◌, List, Result, Ok, Err}
+use Rattle.std.specs.Prelude.{ℕ, ◌≡◌, List, [], Result, Ok, Err}
 use Rattle.texts.specs.Grammar.{IsFirstBad}
 use Rattle.lab_report.specs.declared.reading.ReportError.{ReportError}
 use Rattle.lab_report.specs.declared.reading.ReportError.TheVariants as errors
 use Rattle.lab_report.specs.declared.report.Report.{Report}
+use Rattle.lab_report.specs.declared.state.State.{State}
 use Rattle.lab_report.specs.declared.state.State.TheVariants as states
 use Rattle.lab_report.specs.Grammar.{grammar}
 
@@ -28,3 +29,19 @@ abbrev pub IfBad : Result Report ReportError → (ℕ → Type 0) → Type 0
 IfBad (Ok found) Is = Unit {0}
 IfBad (Err (errors.BadLine line)) Is = Is line
 IfBad (Err errors.NoMemory) Is = Unit {0}
+
+-- what all lines of a report lead to
+abbrev pub whole : Report → State
+whole report = states.Ended report.game report.noise report.names report.body
+
+-- what is the same in every report of version 1
+pub record IsFirstVersion (report : Report) : Type 0 where
+  pub version : report.version ≡ 1
+  pub offset : report.offset ≡ 0
+  pub noises : report.noises ≡ []
+
+-- what reading one line after the other answers
+abbrev pub Reading : Result Report ReportError → Result State ℕ → Type 0
+Reading (Ok found) read = read ≡ Ok (whole found)
+Reading (Err (errors.BadLine line)) read = read ≡ Err line
+Reading (Err errors.NoMemory) read = Unit {0}

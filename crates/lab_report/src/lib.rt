@@ -1,13 +1,16 @@
 //! Reports, and their texts both ways.
 #![tactic(auto)]
 
+mod laws;
 mod lists;
 mod making;
 mod reading;
 mod report;
+mod rules;
 mod state;
 mod writing;
 
+pub use laws::one_report_a_text;
 pub use lists::{Names, Noises};
 pub use making::match_report;
 pub use reading::{ReportError, read_report};

@@ -1,7 +1,9 @@
 //! Lists of a report.
-ghost use Rattle.std.specs.Prelude.{◌≡◌};
+ghost use Rattle.std.specs.Prelude.{◌≡◌, ◌<◌, ◌^◌, ◌-◌, ◌++◌, ◌∷◌, [], length, IfOk, OnOk};
+ghost use Rattle.lab_report.specs.Names.{name_at, place_in, with_name};
 
 use history_model::{Name, Noise};
+use std::alloc::{AllocFailed, Global};
 use std::marker::Model;
 
 /// Names, in order. Contracts see them as their list.
@@ -39,6 +41,60 @@ impl Names {
     {
         &self.items
     }
+
+    /// No names yet.
+    pub(crate) fn new(alloc: Global) -> Names
+        ensures { result ≡ [] }
+    {
+        Names {
+            items: Vec::new(alloc),
+        }
+    }
+
+    /// Adds a name behind the others.
+    pub(crate) fn push(&mut self, name: &Name) -> Result<(), AllocFailed<Name>>
+        ensures { OnOk result (self.new ≡ self.old ++ name.now ∷ []) }
+    {
+        self.items.push(*name)
+    }
+
+    /// The name at a place.
+    pub(crate) fn at(&self, place: u32) -> &Name
+        requires { place < length self.now }
+        ensures { result.now ≡ name_at self.now place }
+    {
+        &self.items[place as usize]
+    }
+
+    /// The place of a name, which comes behind the others where it is new.
+    #[tactic(auto, using(crate::proofs::Places::with_old, crate::proofs::Places::with_new, crate::proofs::Places::place_new, crate::proofs::Places::place_le))]
+    pub(crate) fn place(&mut self, name: &Name) -> Result<u32, AllocFailed<Name>>
+        requires room { length self.old < 2 ^ 32 - 1 }
+        ensures place { IfOk result (λ place. place ≡ place_in self.new name.now) }
+        ensures names { OnOk result (self.new ≡ with_name self.old name.now) }
+    {
+        let place = place_in(&self.items, name);
+        if (place as usize) < self.items.len() {
+            return Ok(place);
+        }
+        self.push(name)?;
+        Ok(place)
+    }
+}
+
+// The place of a name; behind all where it isn't one of them.
+fn place_in(names: &[Name], name: &Name) -> u32
+    requires { length names.now < 2 ^ 32 - 1 }
+    ensures { result ≡ place_in names.now name.now }
+{
+    let mut place: u32 = 0;
+    for other in names {
+        if other.bytes() == name.bytes() {
+            return place;
+        }
+        place += 1;
+    }
+    place
 }
 
 /// Noises, in order. Contracts see them as their list.

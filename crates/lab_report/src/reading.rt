@@ -1,12 +1,21 @@
 //! Reads reports.
-ghost use Rattle.std.specs.Prelude.{ℕ, ◌≡◌, ◌-◌, ◌<◌, ◌^◌, length, IfOk};
+ghost use Rattle.std.specs.Prelude.{ℕ, ◌≡◌, ◌-◌, ◌<◌, ◌^◌, false, length, IfOk, IfSome, IfNone};
+ghost use Rattle.texts.specs.Grammar.{pieces, read_on};
+ghost use Rattle.report_lines.specs.Reading.{line_of};
 ghost use Rattle.lab_report.specs.declared.report.Report.{Report};
-ghost use Rattle.lab_report.specs.Read.{Gives, IfBad, IsBadLine, Refuses};
+ghost use Rattle.lab_report.specs.declared.reading.ReportError.TheVariants.{NoMemory};
+ghost use Rattle.lab_report.specs.declared.state.State.TheVariants.{Start};
+ghost use Rattle.lab_report.specs.Grammar.{grammar, is_ended};
+ghost use Rattle.lab_report.specs.Read.{Gives, IfBad, IsBadLine, IsFirstVersion, Reading, Refuses, whole};
 ghost use Rattle.lab_report.specs.Text.{report_text};
 ghost use Rattle.lab_report.specs.Valid.{IsValid};
 
-use crate::Report;
-use std::alloc::Global;
+use crate::rules::{after, allows};
+use crate::state::State;
+use crate::{Noises, Report};
+use report_lines::{Line, line_of, lines_are_exact};
+use std::alloc::{AllocError, AllocFailed, Global};
+use texts::{first_line, lines_are_read_in_turn, reading_is_exact, refusal_is_exact};
 
 /// Why bytes are no report.
 #[derive(Clone, Copy, Debug, PartialEq, Eq)]
@@ -16,6 +25,79 @@ pub enum ReportError {
     BadLine(u32),
     /// Want of memory.
     NoMemory,
+}
+
+impl From<AllocError> for ReportError {
+    ghost from_gives = { λ _ error. error ≡ NoMemory };
+
+    fn from(_: AllocError) -> ReportError {
+        ReportError::NoMemory
+    }
+}
+
+impl<T: Drop> From<AllocFailed<T>> for ReportError {
+    ghost from_gives = { λ _ error. error ≡ NoMemory };
+
+    fn from(_: AllocFailed<T>) -> ReportError {
+        ReportError::NoMemory
+    }
+}
+
+// The report that all lines led to; `None` where its last line is missing.
+fn report_of(alloc: Global, state: State) -> Option<Report>
+    ensures whole { IfSome result (λ report. state ≡ whole report) }
+    ensures version { IfSome result IsFirstVersion }
+    ensures missing { IfNone result (is_ended state ≡ false) }
+{
+    match state {
+        State::Ended {
+            game,
+            noise,
+            names,
+            body,
+        } => Some(Report {
+            version: 1,
+            offset: 0,
+            game,
+            noise,
+            noises: Noises::from_vec(Vec::new(alloc)),
+            names,
+            body,
+        }),
+        _ => None,
+    }
+}
+
+// Reads one line after the other.
+fn read_lines(alloc: Global, bytes: &[u8]) -> Result<Report, ReportError>
+    requires length { length bytes.now < 2 ^ 32 - 1 }
+    ensures reading { Reading result (read_on grammar line_of Start 1 (pieces bytes.now)) }
+    ensures version { IfOk result IsFirstVersion }
+{
+    lines_are_read_in_turn::<State, Line>();
+    let mut buffer = String::new(alloc);
+    let mut state = State::Start;
+    let mut rest = bytes;
+    let mut number: u32 = 1;
+    while let Some((text, more)) = first_line(rest) {
+        let next = match line_of(&mut buffer, text)? {
+            None => return Err(ReportError::BadLine(number)),
+            Some(next) => next,
+        };
+        if !allows(&state, &next) {
+            return Err(ReportError::BadLine(number));
+        }
+        state = after(alloc, state, next)?;
+        rest = more;
+        number += 1;
+    }
+    if !rest.is_empty() {
+        return Err(ReportError::BadLine(number));
+    }
+    match report_of(alloc, state) {
+        Some(report) => Ok(report),
+        None => Err(ReportError::BadLine(number)),
+    }
 }
 
 /// The valid report that the bytes are the text of. The time is linear in their number.
@@ -31,7 +113,8 @@ pub fn read_report(alloc: Global, bytes: &[u8]) -> Result<Report, ReportError>
     ensures bad { IfBad result (IsBadLine bytes.now) }
     ensures bad_only { (number : ℕ) → IsBadLine bytes.now number → Refuses result number }
 {
-    let _alloc = alloc;
-    let _length = bytes.len();
-    Err(ReportError::NoMemory)
+    lines_are_exact();
+    reading_is_exact::<State, Line>();
+    refusal_is_exact::<State, Line>();
+    read_lines(alloc, bytes)
 }

@@ -2,12 +2,12 @@
 use Rattle.std.specs.Prelude.{codes, ℕ, ◌+◌, ◌*◌, ◌^◌, ◌&&◌, ◌==◌, Bool, true, nat_lt, nat_le, pos, int_le, List, ◌++◌, Option, Some, None, if◌then◌else◌}
 use Rattle.std.specs.Fmt.{decimal}
 use Rattle.history_model.specs.declared.tally.Tally.{Tally}
-use Rattle.history_model.specs.Game.{Payoffs, magnitude}
+use Rattle.history_model.specs.Game.{Payoffs}
 use Rattle.history_model.specs.Name.{is_name}
 use Rattle.history_model.specs.Noise.{FlipRate}
 use Rattle.history_model.specs.Tally.{total}
-use Rattle.texts.specs.Numbers.{span_text}
 use Rattle.fixed_span.specs.Span.{Ends}
+use Rattle.fixed_span.specs.Texts.{span_text}
 use Rattle.fixed_span.specs.Verdict.{verdict}
 use Rattle.fixed_span.specs.declared.ordering.Verdict.{Verdict}
 use Rattle.fixed_span.specs.declared.ordering.Verdict.TheVariants as verdicts
@@ -48,7 +48,7 @@ players_text left right turns =
 
 -- a score, with twelve decimals: a point once, and any other span by both ends
 abbrev pub score_text : Ends → List ℕ
-score_text score = span_text 12 (magnitude score.lo) (magnitude score.hi)
+score_text score = span_text 12 score
 
 -- who scored more, as far as two spans tell
 abbrev pub winner_word : Verdict → List ℕ

@@ -1,6 +1,12 @@
 //! The lines of reports: one typed value for each kind of line, and its text.
 #![tactic(auto)]
 
+mod laws;
 mod line;
+mod reading;
+mod writing;
 
+pub use laws::lines_are_exact;
 pub use line::{Kind, Line, ShownMatch};
+pub use reading::line_of;
+pub use writing::push_line;

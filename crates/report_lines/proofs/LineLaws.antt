@@ -1,0 +1,311 @@
+-- A line is read exactly from its text.
+use Rattle.std.proofs.Common.{◌≡◌, ℕ, ◌+◌, ◌*◌, ◌^◌, ◌<◌, ◌≤◌, Bool, true, false, cond, eqb, ◌&&◌, List, [], ◌∷◌, ◌++◌, Option, Some, None, refl, sym, ap, subst, ◌∙◌, append_assoc, arith, inl, inr, ◌⊎◌}
+use Rattle.std.specs.Prelude.{codes}
+use Rattle.std.specs.Fmt.{decimal}
+use Rattle.std.specs.List.{list_all}
+use Rattle.std.specs.Str.{bytes_eq}
+use Rattle.std.proofs.lemmas.Bool.Decides.{nat_tests}
+use Rattle.std.proofs.lemmas.Slice.Eq.{bytes_eq-Decides}
+use Rattle.history_model.specs.declared.tally.Tally.{Tally}
+use Rattle.history_model.specs.Game.{Payoffs}
+use Rattle.history_model.specs.Name.{is_name, is_name_byte}
+use Rattle.history_model.specs.Noise.{FlipRate}
+use Rattle.texts.specs.Cuts.{lacks, CutsAreExact}
+use Rattle.texts.specs.Numbers.{◌>>=◌, small, IsNoDigit, NumbersAreExact}
+use Rattle.fixed_span.specs.Span.{Ends}
+use Rattle.fixed_span.specs.Texts.{SpansAreExact}
+use Rattle.fixed_span.specs.Verdict.{verdict}
+use Rattle.fixed_span.specs.declared.ordering.Verdict.{Verdict}
+use Rattle.fixed_span.specs.declared.ordering.Verdict.TheVariants as verdicts
+use Rattle.report_lines.specs.declared.line.Kind.TheVariants as kinds
+use Rattle.report_lines.specs.declared.line.ShownMatch.{ShownMatch}
+use Rattle.report_lines.specs.declared.line.Line.{Line}
+use Rattle.report_lines.specs.declared.line.Line.TheVariants as lines
+use Rattle.report_lines.specs.Texts.{dilemma_word, is_dilemma, game_text, noise_text, players_text, score_text, winner_word, scores_text, counts_text, match_text, line_text, is_payoff, are_payoffs, is_noise, is_score, counts_are, is_match, is_line}
+use Rattle.report_lines.specs.Reading.{rest, name_of, score_of, kind_of, payoff_of, game_of, noise_of, tally_of, counts_of, scores_of, match_of, guess, if_text, line_of, LinesAreExact}
+use Rattle.report_lines.proofs.InRange.{both_true, game_parts, payoff_few, noise_few, score_shown, CountsFew, counts_few, MatchParts, match_parts}
+
+-- the laws of the crates below
+pub record Below : Type 0 where
+  pub cuts : CutsAreExact
+  pub numbers : NumbersAreExact
+  pub spans : SpansAreExact
+
+-- ---- fields
+
+abbrev IsBar : ℕ → Type 0
+IsBar b = (b ≡ 10) ⊎ (b ≡ 124)
+
+no_digit : (b : ℕ) → IsBar b → IsNoDigit b
+no_digit b h = grind arith
+
+number_lacks : Below → (b n : ℕ) → IsBar b → n ≤ 2 * 10 ^ 12 → lacks b (decimal n) ≡ true
+number_lacks l b n h few = l.numbers.digits b n (no_digit b h) (omega (arith, few))
+
+small_again : Below → (n : ℕ) → n ≤ 10 ^ 12 → small (decimal n) ≡ Some n
+small_again l n few = (l.numbers.small_numbers (decimal n) n).1 (refl, omega (arith, few))
+
+payoff_again : Below → (pay : ℕ) → is_payoff pay ≡ true → payoff_of (decimal pay) ≡ Some pay
+unfolding payoff_of
+payoff_again l pay h = rw (small_again l pay (omega (arith, payoff_few pay h)), h) refl
+
+byte_is_not : (b x : ℕ) → IsBar b → is_name_byte x ≡ true → eqb x b ≡ false
+byte_is_not b x h e = grind (arith, nat_tests)
+
+bytes_lack : (b : ℕ) (xs : List ℕ) → IsBar b → list_all is_name_byte xs ≡ true → lacks b xs ≡ true
+bytes_lack b [] h e = refl
+bytes_lack b (x ∷ xs) h e =
+    let p = both_true (is_name_byte x) (list_all is_name_byte xs) e in
+    rw (byte_is_not b x h p.0) (bytes_lack b xs h p.1)
+
+name_lacks : (b : ℕ) (name : List ℕ) → IsBar b → is_name name ≡ true → lacks b name ≡ true
+name_lacks b name h e = bytes_lack b name h (both_true _ _ (both_true _ _ e).0).1
+
+name_again : (name : List ℕ) → is_name name ≡ true → name_of name ≡ Some name
+name_again name h = rw h refl
+
+lacks_either : (b : ℕ) (t : Bool) (xs ys : List ℕ) → lacks b xs ≡ true → lacks b ys ≡ true → lacks b (cond t xs ys) ≡ true
+lacks_either b true xs ys h k = h
+lacks_either b false xs ys h k = k
+
+bar_outside : (b : ℕ) → IsBar b → (b < 46) ⊎ (57 < b)
+bar_outside b h = grind arith
+
+score_lacks : Below → (b : ℕ) (score : Ends) → IsBar b → is_score score ≡ true → lacks b (score_text score) ≡ true
+score_lacks l b score h e = l.spans.digits b 12 score (bar_outside b h) (score_shown score e)
+
+score_again : Below → (score : Ends) → is_score score ≡ true → score_of (score_text score) ≡ Some score
+score_again l score h = (l.spans.spans 12 (score_text score) score (inr refl)).1 (score_shown score h, refl)
+
+-- ---- a line is guessed from its text
+
+game_again : Below → (game : Payoffs) → are_payoffs game ≡ true → game_of (rest (game_text game)) ≡ Some game
+unfolding game_of
+game_again l game h =
+    let g = game_parts game h in
+    let bar : IsBar 124 = inr refl in
+    let r = number_lacks l 124 game.r bar (omega (arith, payoff_few game.r g.r)) in
+    let s = number_lacks l 124 game.s bar (omega (arith, payoff_few game.s g.s)) in
+    let t = number_lacks l 124 game.t bar (omega (arith, payoff_few game.t g.t)) in
+    let p = number_lacks l 124 game.p bar (omega (arith, payoff_few game.p g.p)) in
+    let t4 : List ℕ = codes "dilemma|" ++ dilemma_word (is_dilemma game) in
+    let t3 : List ℕ = decimal game.p ++ 124 ∷ t4 in
+    let t2 : List ℕ = decimal game.t ++ 124 ∷ t3 in
+    let t1 : List ℕ = decimal game.s ++ 124 ∷ t2 in
+    rw (
+      l.cuts.before_it 124 (decimal game.r) t1 r,
+      l.cuts.behind_it 124 (decimal game.r) t1 r,
+      payoff_again l game.r g.r,
+      l.cuts.before_it 124 (decimal game.s) t2 s,
+      l.cuts.behind_it 124 (decimal game.s) t2 s,
+      payoff_again l game.s g.s,
+      l.cuts.before_it 124 (decimal game.t) t3 t,
+      l.cuts.behind_it 124 (decimal game.t) t3 t,
+      payoff_again l game.t g.t,
+      l.cuts.before_it 124 (decimal game.p) t4 p,
+      payoff_again l game.p g.p,
+    ) refl
+
+noise_again : Below → (noise : FlipRate) → is_noise noise ≡ true → noise_of (rest (noise_text noise)) ≡ Some noise
+unfolding noise_of
+noise_again l noise h =
+    let few = noise_few noise h in
+    let bar : IsBar 124 = inr refl in
+    let n = number_lacks l 124 noise.n bar (omega (arith, few.0)) in
+    let e = number_lacks l 124 noise.e bar (omega (arith, few.1)) in
+    rw (
+      l.cuts.before_it 124 (decimal noise.n) (decimal noise.e) n,
+      l.cuts.behind_it 124 (decimal noise.n) (decimal noise.e) n,
+      small_again l noise.n (omega (arith, few.0)),
+      l.cuts.before_none 124 (decimal noise.e) e,
+      small_again l noise.e (omega (arith, few.1)),
+      h,
+    ) refl
+
+tally_again : Below → (tally : Tally) → CountsFew tally → counts_of (counts_text (Some tally)) ≡ Some (Some tally)
+unfolding counts_of tally_of
+tally_again l tally few =
+    let bar : IsBar 124 = inr refl in
+    let left = number_lacks l 124 (tally.cc + tally.cd) bar (omega (arith, few.cc, few.cd)) in
+    let right = number_lacks l 124 (tally.cc + tally.dc) bar (omega (arith, few.cc, few.dc)) in
+    let cc = number_lacks l 124 tally.cc bar (omega (arith, few.cc)) in
+    let cd = number_lacks l 124 tally.cd bar (omega (arith, few.cd)) in
+    let dc = number_lacks l 124 tally.dc bar (omega (arith, few.dc)) in
+    let dd = number_lacks l 124 tally.dd bar (omega (arith, few.dd)) in
+    let t4 : List ℕ = decimal tally.dd in
+    let t3 : List ℕ = decimal tally.dc ++ 124 ∷ t4 in
+    let t2 : List ℕ = decimal tally.cd ++ 124 ∷ t3 in
+    let t1 : List ℕ = decimal tally.cc ++ 124 ∷ t2 in
+    let t0 : List ℕ = decimal (tally.cc + tally.dc) ++ 124 ∷ t1 in
+    rw (
+      l.cuts.behind_it 124 (decimal (tally.cc + tally.cd)) t0 left,
+      l.cuts.behind_it 124 (decimal (tally.cc + tally.dc)) t1 right,
+      l.cuts.before_it 124 (decimal tally.cc) t2 cc,
+      l.cuts.behind_it 124 (decimal tally.cc) t2 cc,
+      small_again l tally.cc few.cc,
+      l.cuts.before_it 124 (decimal tally.cd) t3 cd,
+      l.cuts.behind_it 124 (decimal tally.cd) t3 cd,
+      small_again l tally.cd few.cd,
+      l.cuts.before_it 124 (decimal tally.dc) t4 dc,
+      l.cuts.behind_it 124 (decimal tally.dc) t4 dc,
+      small_again l tally.dc few.dc,
+      l.cuts.before_none 124 (decimal tally.dd) dd,
+      small_again l tally.dd few.dd,
+    ) refl
+
+mixed_again : counts_of (counts_text None) ≡ Some None
+unfolding counts_of
+mixed_again = refl
+
+counts_again : Below → (turns : ℕ) (counts : Option Tally) → turns ≤ 10 ^ 12 → counts_are turns counts ≡ true → counts_of (counts_text counts) ≡ Some counts
+counts_again l turns None few h = mixed_again
+counts_again l turns (Some tally) few h = tally_again l tally (counts_few turns tally few h)
+
+winner_lacks_bar : (v : Verdict) → lacks 124 (winner_word v) ≡ true
+winner_lacks_bar verdicts.Greater = refl
+winner_lacks_bar verdicts.Less = refl
+winner_lacks_bar verdicts.Level = refl
+winner_lacks_bar verdicts.Undecided = refl
+
+winner_lacks_end : (v : Verdict) → lacks 10 (winner_word v) ≡ true
+winner_lacks_end verdicts.Greater = refl
+winner_lacks_end verdicts.Less = refl
+winner_lacks_end verdicts.Level = refl
+winner_lacks_end verdicts.Undecided = refl
+
+scores_again : Below → (m : ShownMatch) → MatchParts m
+    → scores_of (scores_text m.left_score m.right_score ++ counts_text m.tally) ≡ Some (m.left_score, m.right_score, m.tally)
+unfolding scores_of
+scores_again l m p =
+    let bar : IsBar 124 = inr refl in
+    let word : List ℕ = winner_word (verdict m.left_score m.right_score) in
+    let left = score_lacks l 124 m.left_score bar p.left_score in
+    let right = score_lacks l 124 m.right_score bar p.right_score in
+    let t2 : List ℕ = counts_text m.tally in
+    let t1 : List ℕ = word ++ 124 ∷ t2 in
+    let t0 : List ℕ = score_text m.right_score ++ 124 ∷ t1 in
+    let regroup : scores_text m.left_score m.right_score ++ counts_text m.tally ≡ score_text m.left_score ++ 124 ∷ t0 = simp append_assoc in
+    ap scores_of regroup ∙ rw (
+      l.cuts.before_it 124 (score_text m.left_score) t0 left,
+      l.cuts.behind_it 124 (score_text m.left_score) t0 left,
+      score_again l m.left_score p.left_score,
+      l.cuts.before_it 124 (score_text m.right_score) t1 right,
+      l.cuts.behind_it 124 (score_text m.right_score) t1 right,
+      score_again l m.right_score p.right_score,
+      l.cuts.behind_it 124 word t2 (winner_lacks_bar (verdict m.left_score m.right_score)),
+      counts_again l m.turns m.tally p.turns p.counts,
+    ) refl
+
+match_again : Below → (m : ShownMatch) → is_match m ≡ true → match_of (rest (match_text m)) ≡ Some m
+unfolding match_of
+match_again l m h =
+    let p = match_parts m h in
+    let bar : IsBar 124 = inr refl in
+    let left = name_lacks 124 m.left bar p.left in
+    let right = name_lacks 124 m.right bar p.right in
+    let turns = number_lacks l 124 m.turns bar (omega (arith, p.turns)) in
+    let t2 : List ℕ = scores_text m.left_score m.right_score ++ counts_text m.tally in
+    let t1 : List ℕ = decimal m.turns ++ 124 ∷ t2 in
+    let t0 : List ℕ = m.right ++ 124 ∷ t1 in
+    let regroup : rest (match_text m) ≡ m.left ++ 124 ∷ t0 = simp append_assoc in
+    ap match_of regroup ∙ rw (
+      l.cuts.before_it 124 m.left t0 left,
+      l.cuts.behind_it 124 m.left t0 left,
+      name_again m.left p.left,
+      l.cuts.before_it 124 m.right t1 right,
+      l.cuts.behind_it 124 m.right t1 right,
+      name_again m.right p.right,
+      l.cuts.before_it 124 (decimal m.turns) t2 turns,
+      l.cuts.behind_it 124 (decimal m.turns) t2 turns,
+      small_again l m.turns p.turns,
+      scores_again l m p,
+    ) refl
+
+guess_again : Below → (line : Line) → is_line line ≡ true → guess (line_text line) ≡ Some line
+unfolding guess kind_of
+guess_again l (lines.Head kinds.Match) h = refl
+guess_again l (lines.Game game) h = rw (game_again l game h) refl
+guess_again l (lines.Noise noise) h = rw (noise_again l noise h) refl
+guess_again l (lines.Match m) h = rw (match_again l m h) refl
+guess_again l lines.End h = refl
+
+-- ---- a line is read from its text, and from no other
+
+same_bytes : (t : List ℕ) → bytes_eq t t ≡ true
+same_bytes t = (bytes_eq-Decides t t).1 refl
+
+again : Below → (line : Line) → is_line line ≡ true → line_of (line_text line) ≡ Some line
+unfolding line_of
+again l line h = rw (guess_again l line h, h, same_bytes (line_text line)) refl
+
+bind_some : {A B : Type 0} (r : Option A) (f : A → Option B) (y : B) → (r >>= f) ≡ Some y → (x : A) × (r ≡ Some x) × (f x ≡ Some y)
+bind_some None f y e = absurd cc
+bind_some (Some x) f y e = (x, refl, e)
+
+went : {A : Type 0} (t : Bool) (x y : A) → cond t (Some x) None ≡ Some y → (t ≡ true) × (x ≡ y)
+went true x y e = (refl, cc)
+went false x y e = absurd cc
+
+takes : (t : List ℕ) (line : Line) → line_of t ≡ Some line → (is_line line ≡ true) × (t ≡ line_text line)
+unfolding line_of
+takes t line e =
+    let a = bind_some (guess t) (if_text t) line e in
+    let w = went (is_line a.0 && bytes_eq (line_text a.0) t) a.0 line a.2 in
+    let b = both_true (is_line a.0) (bytes_eq (line_text a.0) t) w.0 in
+    subst (λ (x : Line). (is_line x ≡ true) × (t ≡ line_text x)) w.1 (b.0, sym ((bytes_eq-Decides (line_text a.0) t).0 b.1))
+
+-- ---- no LF stands in a line
+
+game_line : Below → (game : Payoffs) → are_payoffs game ≡ true → lacks 10 (game_text game) ≡ true
+game_line l game h =
+    let g = game_parts game h in
+    let feed : IsBar 10 = inl refl in
+    l.cuts.together 10 (decimal game.r) _ (number_lacks l 10 game.r feed (omega (arith, payoff_few game.r g.r)))
+    (l.cuts.together 10 (decimal game.s) _ (number_lacks l 10 game.s feed (omega (arith, payoff_few game.s g.s)))
+    (l.cuts.together 10 (decimal game.t) _ (number_lacks l 10 game.t feed (omega (arith, payoff_few game.t g.t)))
+    (l.cuts.together 10 (decimal game.p) _ (number_lacks l 10 game.p feed (omega (arith, payoff_few game.p g.p)))
+    (lacks_either 10 (is_dilemma game) (codes "yes") (codes "no") refl refl))))
+
+noise_line : Below → (noise : FlipRate) → is_noise noise ≡ true → lacks 10 (noise_text noise) ≡ true
+noise_line l noise h =
+    let few = noise_few noise h in
+    let feed : IsBar 10 = inl refl in
+    l.cuts.together 10 (decimal noise.n) _ (number_lacks l 10 noise.n feed (omega (arith, few.0))) (number_lacks l 10 noise.e feed (omega (arith, few.1)))
+
+tally_line : Below → (tally : Tally) → CountsFew tally → lacks 10 (counts_text (Some tally)) ≡ true
+tally_line l tally few =
+    let feed : IsBar 10 = inl refl in
+    l.cuts.together 10 (decimal (tally.cc + tally.cd)) _ (number_lacks l 10 (tally.cc + tally.cd) feed (omega (arith, few.cc, few.cd)))
+    (l.cuts.together 10 (decimal (tally.cc + tally.dc)) _ (number_lacks l 10 (tally.cc + tally.dc) feed (omega (arith, few.cc, few.dc)))
+    (l.cuts.together 10 (decimal tally.cc) _ (number_lacks l 10 tally.cc feed (omega (arith, few.cc)))
+    (l.cuts.together 10 (decimal tally.cd) _ (number_lacks l 10 tally.cd feed (omega (arith, few.cd)))
+    (l.cuts.together 10 (decimal tally.dc) _ (number_lacks l 10 tally.dc feed (omega (arith, few.dc))) (number_lacks l 10 tally.dd feed (omega (arith, few.dd)))))))
+
+counts_line : Below → (turns : ℕ) (counts : Option Tally) → turns ≤ 10 ^ 12 → counts_are turns counts ≡ true → lacks 10 (counts_text counts) ≡ true
+counts_line l turns None few h = refl
+counts_line l turns (Some tally) few h = tally_line l tally (counts_few turns tally few h)
+
+match_line : Below → (m : ShownMatch) → is_match m ≡ true → lacks 10 (match_text m) ≡ true
+match_line l m h =
+    let p = match_parts m h in
+    let feed : IsBar 10 = inl refl in
+    let players : lacks 10 (players_text m.left m.right m.turns) ≡ true =
+    l.cuts.together 10 m.left _ (name_lacks 10 m.left feed p.left)
+    (l.cuts.together 10 m.right _ (name_lacks 10 m.right feed p.right)
+    (l.cuts.together 10 (decimal m.turns) _ (number_lacks l 10 m.turns feed (omega (arith, p.turns))) refl)) in
+    let scores : lacks 10 (scores_text m.left_score m.right_score) ≡ true =
+    l.cuts.together 10 (score_text m.left_score) _ (score_lacks l 10 m.left_score feed p.left_score)
+    (l.cuts.together 10 (score_text m.right_score) _ (score_lacks l 10 m.right_score feed p.right_score)
+    (l.cuts.together 10 (winner_word (verdict m.left_score m.right_score)) _ (winner_lacks_end (verdict m.left_score m.right_score)) refl)) in
+    l.cuts.together 10 (players_text m.left m.right m.turns) _ players
+    (l.cuts.together 10 (scores_text m.left_score m.right_score) _ scores (counts_line l m.turns m.tally p.turns p.counts))
+
+one_line : Below → (line : Line) → is_line line ≡ true → lacks 10 (line_text line) ≡ true
+one_line l (lines.Head kinds.Match) h = refl
+one_line l (lines.Game game) h = game_line l game h
+one_line l (lines.Noise noise) h = noise_line l noise h
+one_line l (lines.Match m) h = match_line l m h
+one_line l lines.End h = refl
+
+pub exact : Below → LinesAreExact
+exact l = record { takes = takes; again = again l; one_line = one_line l }

@@ -1,0 +1,103 @@
+-- Reading a line: its fields are read as if it were one, and the line is kept where it is in range and has this very text.
+use Rattle.std.specs.Prelude.{codes, ◌≡◌, ℕ, ◌&&◌, true, List, Option, Some, None, if◌then◌else◌}
+use Rattle.std.specs.Str.{bytes_eq}
+use Rattle.history_model.specs.declared.tally.Tally.{Tally}
+use Rattle.history_model.specs.Game.{Payoffs}
+use Rattle.history_model.specs.Name.{is_name}
+use Rattle.history_model.specs.Noise.{FlipRate}
+use Rattle.texts.specs.Cuts.{before, behind, lacks}
+use Rattle.texts.specs.Numbers.{◌>>=◌, small}
+use Rattle.fixed_span.specs.Span.{Ends}
+use Rattle.fixed_span.specs.Texts.{span_of}
+use Rattle.report_lines.specs.declared.line.Kind.{Kind}
+use Rattle.report_lines.specs.declared.line.Kind.TheVariants as kinds
+use Rattle.report_lines.specs.declared.line.ShownMatch.{ShownMatch}
+use Rattle.report_lines.specs.declared.line.Line.{Line}
+use Rattle.report_lines.specs.declared.line.Line.TheVariants as lines
+use Rattle.report_lines.specs.Texts.{is_payoff, is_noise, line_text, is_line}
+
+-- the first field, and what stands behind it
+abbrev pub field : List ℕ → List ℕ
+field t = before 124 t
+
+abbrev pub rest : List ℕ → List ℕ
+rest t = behind 124 t
+
+abbrev pub name_of : List ℕ → Option (List ℕ)
+name_of t = if is_name t then Some t else None
+
+abbrev pub score_of : List ℕ → Option Ends
+score_of t = span_of 12 t
+
+unfoldable pub kind_of : List ℕ → Option Kind
+kind_of t = if bytes_eq t (codes "match") then Some kinds.Match else None
+
+unfoldable pub payoff_of : List ℕ → Option ℕ
+payoff_of t = small t >>= λ pay. if is_payoff pay then Some pay else None
+
+unfoldable pub game_of : List ℕ → Option Payoffs
+game_of t = do
+  r ← payoff_of (field t)
+  s ← payoff_of (field (rest t))
+  u ← payoff_of (field (rest (rest t)))
+  p ← payoff_of (field (rest (rest (rest t))))
+  Some (record { r = r; s = s; t = u; p = p })
+
+abbrev pub in_range : FlipRate → Option FlipRate
+in_range noise = if is_noise noise then Some noise else None
+
+unfoldable pub noise_of : List ℕ → Option FlipRate
+noise_of t = do
+  n ← small (field t)
+  e ← small (field (rest t))
+  in_range (record { n = n; e = e })
+
+unfoldable pub tally_of : List ℕ → Option Tally
+tally_of t = do
+  cc ← small (field t)
+  cd ← small (field (rest t))
+  dc ← small (field (rest (rest t)))
+  dd ← small (field (rest (rest (rest t))))
+  Some (record { cc = cc; cd = cd; dc = dc; dd = dd })
+
+-- the counts, in what stands behind the winner
+unfoldable pub counts_of : List ℕ → Option (Option Tally)
+counts_of t = if bytes_eq (field t) (codes "sure") then (tally_of (rest (rest (rest t))) >>= λ tally. Some (Some tally)) else Some None
+
+-- both scores, and the counts
+unfoldable pub scores_of : List ℕ → Option (Ends × Ends × Option Tally)
+scores_of t = do
+  left ← score_of (field t)
+  right ← score_of (field (rest t))
+  counts ← counts_of (rest (rest (rest t)))
+  Some (left, right, counts)
+
+unfoldable pub match_of : List ℕ → Option ShownMatch
+match_of t = do
+  left ← name_of (field t)
+  right ← name_of (field (rest t))
+  turns ← small (field (rest (rest t)))
+  x ← scores_of (rest (rest (rest t)))
+  Some (record { left = left; right = right; turns = turns; left_score = x.0; right_score = x.1; tally = x.2 })
+
+-- a line by its first field; what its other fields don't need isn't looked at
+unfoldable pub guess : List ℕ → Option Line
+guess t =
+    if bytes_eq (field t) (codes "match") then (match_of (rest t) >>= λ m. Some (lines.Match m)) else
+    if bytes_eq (field t) (codes "axlab") then (kind_of (rest (rest t)) >>= λ kind. Some (lines.Head kind)) else
+    if bytes_eq (field t) (codes "game") then (game_of (rest t) >>= λ game. Some (lines.Game game)) else
+    if bytes_eq (field t) (codes "noise") then (noise_of (rest t) >>= λ noise. Some (lines.Noise noise)) else
+    if bytes_eq (field t) (codes "end") then Some lines.End else None
+
+abbrev pub if_text : List ℕ → Line → Option Line
+if_text t line = if is_line line && bytes_eq (line_text line) t then Some line else None
+
+-- the line in range whose text this is
+unfoldable pub line_of : List ℕ → Option Line
+line_of t = guess t >>= if_text t
+
+-- the law: exactly the texts of lines in range are read, and none of them has an LF
+pub record LinesAreExact : Type 0 where
+  pub takes : (t : List ℕ) (line : Line) → line_of t ≡ Some line → (is_line line ≡ true) × (t ≡ line_text line)
+  pub again : (line : Line) → is_line line ≡ true → line_of (line_text line) ≡ Some line
+  pub one_line : (line : Line) → is_line line ≡ true → lacks 10 (line_text line) ≡ true
