@@ -1,9 +1,10 @@
 pub mod Commands
 pub mod Complete
+pub mod Entrants
 pub mod Loading
 pub mod Outcome
-pub mod Report
 pub mod Right
+pub mod RightLine
 pub mod Sides
 pub mod Steps
 pub mod Texts

@@ -1,13 +1,14 @@
 -- What the output of a command must say, and why the program may answer otherwise.
-use Rattle.std.specs.Prelude.{◌≡◌, ℕ, ◌*◌, List, Option, Some, Ok, Err, ◌⊎◌}
-use Rattle.history_model.specs.Path.{match_path}
-use Rattle.history_model.specs.Tally.{counts}
+use Rattle.std.specs.Prelude.{◌≡◌, ℕ, List, Option, Some, Ok, Err, ◌⊎◌}
 use Rattle.player_core.specs.State.{Lasting}
 use Rattle.player_core.specs.Bench.{notes_of}
-use Rattle.player_core.specs.Entry.{entry_automaton}
-use Rattle.match_play.specs.Fresh.{IsFresh}
-use Rattle.player_core.specs.Sheet.{SheetData}
-use Rattle.strategy_file.specs.declared.draft.Draft.TheVariants.{Ready}
+use Rattle.match_play.specs.declared.line.MatchLine.{MatchLine}
+use Rattle.round_robin.specs.Asked.{Turns}
+use Rattle.lab_report.specs.declared.report.Body.TheVariants as bodies
+use Rattle.lab_report.specs.declared.report.Report.{Report}
+use Rattle.lab_report.specs.Names.{name_at}
+use Rattle.lab_report.specs.Text.{report_text}
+use Rattle.lab_report.specs.Valid.{IsValid}
 use Rattle.lab_file.specs.declared.command.Command.TheVariants as commands
 use Rattle.lab_file.specs.declared.jobs.MatchJob.{MatchJob}
 use Rattle.lab_file.specs.Lab.{LabData, entry_at}
@@ -18,23 +19,27 @@ use Rattle.lab_ports.specs.Holding.{Holding, Grew, GrewByPart}
 use Rattle.axlab_core.specs.declared.words.Form.{Form}
 use Rattle.axlab_core.specs.declared.words.Form.TheVariants.{Match, Unbuilt, Faulty}
 use Rattle.axlab_core.specs.Loading.{Missing, Refuses, Loads, IsTold}
-use Rattle.axlab_core.specs.Report.{match_text}
-use Rattle.axlab_core.specs.Sides.{Turns, MadeTurns}
+use Rattle.axlab_core.specs.RightLine.{IsRightBetween, IsAskedBetween}
 
--- the lab's match, with the sheets of its two entries
-pub record MatchSheets (lab : LabData) : Type 0 where
+-- the report is of this lab: its head shows the lab's version, game and noise
+pub record IsOfLab (lab : LabData) (report : Report) : Type 0 where
+  pub version : report.version ≡ 1
+  pub game : report.game ≡ lab.game
+  pub noise : report.noise ≡ lab.noise
+
+-- the bytes are the text of a valid report of the lab's match, whose line is right
+pub record IsRightMatch (players : List Lasting) (lab : LabData) (bytes : List ℕ) : Type 0 where
   pub job : MatchJob
   pub job_is : lab.jobs.match_job ≡ Some job
-  pub left : SheetData
-  pub right : SheetData
-  pub left_is : (entry_at lab.entries job.left).draft ≡ Ready left
-  pub right_is : (entry_at lab.entries job.right).draft ≡ Ready right
-
--- the report of the lab's match: its counts are those of playing every turn, and its scores are those of these counts
-pub record IsRightMatch (players : List Lasting) (lab : LabData) (bytes : List ℕ) : Type 0 where
-  pub sheets : MatchSheets lab
-  pub text : bytes ≡ match_text lab.game lab.noise (entry_at lab.entries sheets.job.left).name (entry_at lab.entries sheets.job.right).name sheets.job.turns
-      (counts (match_path (entry_automaton players sheets.left) (entry_automaton players sheets.right) sheets.job.turns))
+  pub report : Report
+  pub valid : IsValid report
+  pub text : bytes ≡ report_text report
+  pub of_lab : IsOfLab lab report
+  pub line : MatchLine
+  pub body : report.body ≡ bodies.Match line
+  pub left_name : name_at report.names line.left ≡ (entry_at lab.entries job.left).name
+  pub right_name : name_at report.names line.right ≡ (entry_at lab.entries job.right).name
+  pub right : IsRightBetween players lab job.left job.right job.turns line
 
 -- what each command's output must say of the lab
 abbrev pub IsRight : Form → List Lasting → LabData → List ℕ → Type 0
@@ -42,11 +47,11 @@ IsRight Match players lab bytes = IsRightMatch players lab bytes
 IsRight Unbuilt players lab bytes = ⊥
 IsRight Faulty players lab bytes = ⊥
 
--- the players were asked: together they made as many advances as the match meets new pairs of rows, on each side
+-- the players of the lab's match were asked
 pub record IsAskedMatch (players : List Lasting) (lab : LabData) (before now : Turns) : Type 0 where
-  pub sheets : MatchSheets lab
-  pub made : (j : ℕ) → IsFresh (entry_automaton players sheets.left) (entry_automaton players sheets.right) sheets.job.turns j
-      → MadeTurns (2 * j) before now
+  pub job : MatchJob
+  pub job_is : lab.jobs.match_job ≡ Some job
+  pub asked : IsAskedBetween players lab job.left job.right job.turns before now
 
 -- what each command must have asked its players
 abbrev pub IsAsked : Form → List Lasting → LabData → Turns → Turns → Type 0
