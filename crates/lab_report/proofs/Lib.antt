@@ -1,3 +1,6 @@
+pub mod Answered
 pub mod Loops
 pub mod Places
 pub mod Ranges
+pub mod SoFar
+pub mod Written

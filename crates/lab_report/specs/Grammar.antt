@@ -28,9 +28,9 @@ abbrev pub is_paid : Ends → ℕ → Bool
 is_paid score points = int_eq score.lo (pos (points * score_units)) && int_eq score.hi (pos (points * score_units))
 
 -- the scores are what the counts are paid
-abbrev pub pays : Payoffs → ShownMatch → Option Tally → Bool
-pays game m None = true
-pays game m (Some tally) = is_paid m.left_score (left_points game tally) && is_paid m.right_score (right_points game tally)
+abbrev pub pays : Payoffs → Ends → Ends → Option Tally → Bool
+pays game left right None = true
+pays game left right (Some tally) = is_paid left (left_points game tally) && is_paid right (right_points game tally)
 
 -- the match with places in place of its names, of which those that are new come behind all others
 abbrev pub placed_match : List (List ℕ) → ShownMatch → MatchLine
@@ -53,7 +53,7 @@ no_lines kinds.Match = parts.Match None
 
 -- one match
 abbrev pub match_allows : Payoffs → Option MatchLine → Line → Bool
-match_allows game None (lines.Match m) = pays game m m.tally
+match_allows game None (lines.Match m) = pays game m.left_score m.right_score m.tally
 match_allows game (Some line) lines.End = true
 match_allows _ _ _ = false
 

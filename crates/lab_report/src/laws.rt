@@ -1,7 +1,15 @@
 //! Laws of reports and their texts.
 ghost use Rattle.lab_report.specs.Valid.{OneReportAText};
 
+use crate::state::State;
+use report_lines::{Line, lines_are_exact};
+use texts::{reading_is_exact, refusal_is_exact};
+
 /// Two valid reports with one text are equal.
 pub fn one_report_a_text()
     ensures { OneReportAText }
-{}
+{
+    lines_are_exact();
+    reading_is_exact::<State, Line>();
+    refusal_is_exact::<State, Line>();
+}

@@ -46,7 +46,12 @@ pub fn match_report(
     ensures valid { IfOk result IsValid }
 {
     // The parts are in range by their types.
-    let _ranges = (game.unsigned(), noise.denominator(), left.len(), right.len());
+    let _ranges = (
+        game.unsigned(),
+        noise.denominator(),
+        left.len(),
+        right.len(),
+    );
     let names = names_of_pair(alloc, left, right)?;
     Ok(Report {
         version: 1,

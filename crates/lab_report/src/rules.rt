@@ -23,7 +23,7 @@ fn is_paid(score: Span, points: u128) -> bool
 fn pays(game: &Game, found: &ShownMatch, tally: &Option<Tally>) -> bool
     requires turns { found.now.turns ≤ 10 ^ 12 }
     requires counts { counts_are found.now.turns tally.now ≡ true }
-    ensures { result ≡ pays game.now found.now tally.now }
+    ensures { result ≡ pays game.now found.now.left_score found.now.right_score tally.now }
 {
     match tally {
         None => true,
