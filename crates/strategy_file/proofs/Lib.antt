@@ -1,4 +1,3 @@
 pub mod CsvRead
 pub mod CsvRows
 pub mod TomlRows
-pub mod Noted

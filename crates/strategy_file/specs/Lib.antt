@@ -7,4 +7,3 @@ pub mod TomlRows
 pub use Rattle.lab_keys.specs.Keys
 pub use Rattle.lab_keys.specs.Refusing
 pub use Rattle.machine_rows.specs.Rows
-pub mod Noted

@@ -7,7 +7,6 @@ mod csv_rows;
 mod draft;
 mod entry;
 mod file_name;
-mod laws;
 mod sheets;
 mod toml_rows;
 
@@ -15,7 +14,6 @@ pub use csv_rows::read_machine_csv;
 pub use draft::{Draft, MachineFile};
 pub use entry::read_sheet;
 pub use file_name::FileName;
-pub use laws::plugs_are_noted;
 
 #[cfg(test)]
 mod csv_tests;
