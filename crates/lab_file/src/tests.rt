@@ -124,24 +124,31 @@ version = 1; entry = [{ name = 7 }, 1] => WrongType Top 0 Entry
 version = 1; entry = [{ name = "a", kind = "plug", plug = "dice" }] => usual: a Plug []/1 [] [] dice: no match
 "#;
 
-// The answers of the limits of a match.
-const LIMITS: &str = r#"turns = 5 -> turns = 1_000_000 => Ok(())
+// A lab whose match is one of 457 rows with itself, with noise. `*` is 255 weights.
+const WIDE: &str =
+    r#"version = 1 -> version = 1; noise = { n = 1, e = 100 } and own = 1; other = 0; first = 0; opening = [3]; table = [0, 3] -> own = 4; other = 2; first = 2; opening = [3, 0, 3, 0]; table = [0*] and left = "tft"; right = "fox" -> left = "wide"; right = "wide""#;
+
+// The answers of the limits of a match. `#` is the lab above.
+const LIMITS: &str = r##"turns = 5 -> turns = 1_000_000 => Ok(())
 turns = 5 -> turns = 1_000_001 => Err(TooManyTurns)
 [match] -> [matches] => Err(NoJob)
-version = 1 -> version = 1; noise = { n = 0, e = 1000 } => Ok(())
-version = 1 -> version = 1; noise = { n = 1, e = 1000 } => Err(NotBuilt)
-plug = "grim" -> plug = "dice" => Err(NotBuilt)
-plug = "grim" -> plug = "dice" and turns = 5 -> turns = 1_000_001 => Err(NotBuilt)
-plug = "grim" -> plug = "dice" and right = "fox" -> right = "sly" => Ok(())
-den = 1; opening = 1; weights = [1, 0, 1, 0] -> den = 2; opening = 0; weights = [2, 0, 0, 2] => Ok(())
-den = 1; opening = 1; weights = [1, 0, 1, 0] -> den = 2; opening = 1; weights = [2, 0, 0, 2] => Err(NotBuilt)
-den = 1; opening = 1; weights = [1, 0, 1, 0] -> den = 2; opening = 0; weights = [2, 0, 0, 1] => Err(NotBuilt)
-left = "tft" -> left = "wide" => Ok(())
-left = "tft" -> left = "wide" and opening = [3] -> opening = [1] => Err(NotBuilt)
-left = "tft" -> left = "wide" and table = [0, 3] -> table = [2, 3] => Err(NotBuilt)
-right = "fox" -> right = "wide" and opening = [3] -> opening = [2] => Err(NotBuilt)
-right = "fox" -> right = "wide" and table = [0, 3] -> table = [0, 1] => Err(NotBuilt)
-"#;
+version = 1 -> version = 1; noise = { n = 0, e = 1000 } and turns = 5 -> turns = 10_001 => Ok(())
+version = 1 -> version = 1; noise = { n = 1, e = 1000 } and turns = 5 -> turns = 10_001 => Err(TooManyTurns)
+version = 1 -> version = 1; noise = { n = 1, e = 1000 } and turns = 5 -> turns = 10_000 => Ok(())
+plug = "grim" -> plug = "dice" and turns = 5 -> turns = 10_001 => Err(TooManyTurns)
+plug = "grim" -> plug = "dice" and right = "fox" -> right = "sly" and turns = 5 -> turns = 1_000_000 => Ok(())
+den = 1; opening = 1; weights = [1, 0, 1, 0] -> den = 2; opening = 0; weights = [2, 0, 0, 2] and turns = 5 -> turns = 10_001 => Ok(())
+den = 1; opening = 1; weights = [1, 0, 1, 0] -> den = 2; opening = 1; weights = [2, 0, 0, 2] and turns = 5 -> turns = 10_001 => Err(TooManyTurns)
+den = 1; opening = 1; weights = [1, 0, 1, 0] -> den = 3; opening = 0; weights = [3, 0, 0, 1] and turns = 5 -> turns = 10_001 => Err(TooManyTurns)
+den = 1; opening = 1; weights = [1, 0, 1, 0] -> den = 3; opening = 0; weights = [3, 0, 0, 1] and turns = 5 -> turns = 10_000 => Ok(())
+left = "tft" -> left = "wide" and turns = 5 -> turns = 10_001 => Ok(())
+left = "tft" -> left = "wide" and opening = [3] -> opening = [1] and turns = 5 -> turns = 10_001 => Err(TooManyTurns)
+right = "fox" -> right = "wide" and opening = [3] -> opening = [2] and turns = 5 -> turns = 10_001 => Err(TooManyTurns)
+right = "fox" -> right = "wide" and table = [0, 3] -> table = [0, 1] and turns = 5 -> turns = 10_001 => Err(TooManyTurns)
+# and turns = 5 -> turns = 143 => Ok(())
+# and turns = 5 -> turns = 144 => Err(TooMuchWork)
+# and turns = 5 -> turns = 10_001 => Err(TooManyTurns)
+"##;
 
 // A lab two of whose entries wait for a file; and, in turn, the place of an entry, the rows that are
 // read for it, and what comes of it.
@@ -364,9 +371,12 @@ fn attaches_files(rt: HostRuntime) -> Result<(), Fail> {
 fn tests_limits(rt: HostRuntime) -> Result<(), Fail> {
     let alloc = rt.alloc();
     let notes = notes(alloc)?;
+    let weights = ", 1".repeat(alloc, 255)?;
     for line in LIMITS.lines() {
         let (changes, want) = line.split_once(" => ").ok_or("no answer")?;
-        let lab = read_lab(alloc, changed(alloc, changes)?.as_bytes(), &notes)?;
+        let changes = changes.replace(alloc, "#", WIDE)?;
+        let text = changed(alloc, changes.as_str())?.replace(alloc, "*", &weights)?;
+        let lab = read_lab(alloc, text.as_bytes(), &notes)?;
         let got = format!(in alloc; "{:?}", lab.limits(Command::Match, &notes))?;
         assert_eq!(rt; got.as_str(), want, "at {line}");
     }

@@ -1,0 +1,48 @@
+-- Entries whose plugs have notes, and what the notes of a bench tell of its players.
+use Rattle.std.specs.Prelude.{ℕ, ◌≡◌, ◌||◌, Bool, true, false, List, [], ◌∷◌, length, Ok, All, bytes_eq}
+use Rattle.player_core.specs.declared.kind.Kind.TheVariants.{Plug}
+use Rattle.player_core.specs.declared.bench.PlugNote.{PlugNote}
+use Rattle.player_core.specs.State.{Lasting}
+use Rattle.player_core.specs.Sheet.{SheetData}
+use Rattle.player_core.specs.Fits.{NoPlugNamed}
+use Rattle.player_core.specs.Entry.{entry_automaton}
+use Rattle.player_core.specs.Bench.{is_sure, notes_of}
+use Rattle.strategy_file.specs.declared.draft.Draft.{Draft}
+use Rattle.strategy_file.specs.declared.draft.Draft.TheVariants.{Ready, FromFile}
+use Rattle.lab_file.specs.declared.lab.Entry.{Entry}
+use Rattle.lab_file.specs.Attached.{attached}
+use Rattle.lab_file.specs.Lab.{LabData}
+use Rattle.lab_file.specs.LabOf.{lab_of}
+use Rattle.lab_file.specs.Rows.{sheet_rows}
+use Rattle.lab_file.specs.Sure.{sheet_is_sure}
+
+-- whether some plug has this name
+abbrev pub has_note : List PlugNote → List ℕ → Bool
+has_note [] name = false
+has_note (note ∷ notes) name = bytes_eq note.name name || has_note notes name
+
+-- a sheet of a plug has its note
+abbrev pub IsNoted : List PlugNote → SheetData → Type 0
+IsNoted notes sheet = sheet.kind ≡ Plug → has_note notes sheet.plug ≡ true
+
+abbrev pub IsNotedDraft : List PlugNote → Draft → Type 0
+IsNotedDraft notes (Ready sheet) = IsNoted notes sheet
+IsNotedDraft notes (FromFile machine) = Unit {0}
+
+abbrev pub AreNoted : List PlugNote → List Entry → Type 0
+AreNoted notes entries = All (λ (entry : Entry). IsNotedDraft notes entry.draft) entries
+
+-- the laws of a bench's notes: where a sheet has its note, the bench has its players, and the notes tell of its automaton whether it
+-- is sure, and how many rows it has
+pub record NotesTell : Type 0 where
+  pub known : (players : List Lasting) (sheet : SheetData) → IsNoted (notes_of players) sheet → NoPlugNamed players sheet → ⊥
+  pub sure : (players : List Lasting) (sheet : SheetData) → IsNoted (notes_of players) sheet
+      → sheet_is_sure (notes_of players) sheet ≡ is_sure (entry_automaton players sheet)
+  pub rows : (players : List Lasting) (sheet : SheetData) → IsNoted (notes_of players) sheet
+      → sheet_rows (notes_of players) sheet ≡ length (entry_automaton players sheet).rows
+
+-- the laws of labs: each plug of a lab that is read over notes has its note, and has it still after a file was attached
+pub record LabsAreNoted : Type 0 where
+  pub read : (notes : List PlugNote) (bytes : List ℕ) (lab : LabData) → lab_of notes bytes ≡ Ok lab → AreNoted notes lab.entries
+  pub attached : (notes : List PlugNote) (lab new : LabData) (place : ℕ) (bytes : List ℕ) → attached lab place bytes ≡ Ok new
+      → AreNoted notes lab.entries → AreNoted notes new.entries

@@ -1,0 +1,12 @@
+//! Laws, proved once: a caller has one by calling its function, which does nothing.
+ghost use Rattle.lab_file.specs.Notes.{LabsAreNoted, NotesTell};
+
+/// What the notes of a bench tell of the automata that sheets play on it.
+pub fn notes_tell()
+    ensures { NotesTell }
+{}
+
+/// Each plug of a lab that is read over notes has its note.
+pub fn labs_are_noted()
+    ensures { LabsAreNoted }
+{}
