@@ -7,7 +7,7 @@ use Rattle.player_core.specs.State.{Lasting}
 use Rattle.player_core.specs.Bench.{notes_of}
 use Rattle.lab_file.specs.declared.command.Command.TheVariants as commands
 use Rattle.lab_file.specs.Lab.{LabData}
-use Rattle.axlab_core.specs.Sides.{Turns}
+use Rattle.round_robin.specs.Asked.{Turns}
 use Rattle.axlab_core.specs.declared.words.Form.{Form}
 use Rattle.axlab_core.specs.declared.words.Form.TheVariants.{Match, Unbuilt, Faulty}
 use Rattle.axlab_core.specs.declared.status.Status.{Status}

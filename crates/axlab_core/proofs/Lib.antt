@@ -1,7 +1,3 @@
-pub mod Asking
+pub mod Completeness
 pub mod Loading
 pub mod Noting
-pub mod Completeness
-pub mod Entries
-pub mod Padded
-pub mod Reports

@@ -21,9 +21,10 @@ use Rattle.lab_file.specs.Lab.{LabData, entry_at, no_entry}
 use Rattle.lab_file.specs.LabOf.{lab_of}
 use Rattle.lab_file.specs.Attached.{attached, draft_with, set_draft}
 use Rattle.lab_file.specs.Limits.{limits_of}
+use Rattle.lab_file.specs.Notes.{IsNotedDraft, AreNoted, LabsAreNoted}
 use Rattle.axlab_core.specs.declared.load.LoadError.{LoadError}
 use Rattle.axlab_core.specs.declared.load.LoadError.TheVariants.{Unread, Refused, NoMemory}
-use Rattle.axlab_core.specs.Loading.{Stop, Missing, Refuses, ◌>>=◌, or_missing, or_stop, file_source, machine_source, draft_read, entries_read, Loads, IsTold}
+use Rattle.axlab_core.specs.Loading.{Stop, Missing, Refuses, ◌>>=◌, or_missing, or_stop, file_source, machine_source, lab_read, draft_read, entries_read, Loads, IsTold}
 use Rattle.axlab_core.specs.Steps.{of_file, ReadFails, Explains, IsReadyDraft, IsReadyEntry, ReadsLab, Attaches, AttachStops, AttachesAll, AttachAllStops}
 
 -- what a read gave is what the source has
@@ -273,6 +274,38 @@ none_ready k d inside = absurd (omega arith)
 
 pub all_ready : (holding : Option Holding) (old new : LabData) → AttachesAll holding old new → All IsReadyEntry new.entries
 all_ready holding old new all = entries_ready (machine_source holding all.given) [] old.entries new.entries none_ready all.is
+
+-- drafts that are read name no plug but those of which there is a note
+draft_noted : LabsAreNoted → (notes : List PlugNote) (source : List ℕ → Option (List ℕ)) (place : ℕ) (draft made : Draft)
+    → IsNotedDraft notes draft → draft_read source place draft ≡ Ok made → IsNotedDraft notes made
+draft_noted labs notes source place (Ready sheet) made noted read = let same : Ready sheet ≡ made = cc in rw (sym same) noted
+draft_noted labs notes source place (FromFile machine) made noted read =
+    let found = goes_on (or_missing (source machine.file)) (λ bytes. or_stop (draft_with (place + 1) (FromFile machine) bytes)) made read in
+    labs.filed notes (place + 1) (FromFile machine) made found.0 (not_stopped (draft_with (place + 1) (FromFile machine) found.0) made found.2) noted
+
+entries_noted : LabsAreNoted → (notes : List PlugNote) (source : ℕ → List ℕ → Option (List ℕ)) (done entries now : List Entry)
+    → AreNoted notes done → AreNoted notes entries → entries_read source done entries ≡ Ok now → AreNoted notes now
+entries_noted labs notes source done [] now before noted read = let same : done ≡ now = cc in rw (sym same) before
+entries_noted labs notes source done (entry ∷ rest) now before noted read =
+    let step = goes_on (draft_read (source (length done)) (length done) entry.draft) (λ d. entries_read source (done ++ (record entry { draft = d }) ∷ []) rest) now read in
+    let own : IsNotedDraft notes entry.draft = noted 0 entry (omega arith) in
+    entries_noted labs notes source (done ++ (record entry { draft = step.0 }) ∷ []) rest now
+    (All-push (λ (e : Entry). IsNotedDraft notes e.draft) done (record entry { draft = step.0 }) before
+    (draft_noted labs notes (source (length done)) (length done) entry.draft step.0 own step.1))
+    (λ k d inside. noted (suc k) d (omega (arith, inside))) step.2
+
+none_noted : (notes : List PlugNote) → AreNoted notes []
+none_noted notes k d inside = absurd (omega arith)
+
+first_noted : LabsAreNoted → (notes : List PlugNote) (found : Option (List ℕ)) (lab : LabData) → lab_read notes found ≡ Ok lab → AreNoted notes lab.entries
+first_noted labs notes None lab read = absurd (cc)
+first_noted labs notes (Some bytes) lab read = labs.read notes bytes lab (not_stopped (lab_of notes bytes) lab read)
+
+pub all_noted : LabsAreNoted → (notes : List PlugNote) (name : List ℕ) (holding : Option Holding) (first lab : LabData)
+    → ReadsLab notes name holding (Ok first) → AttachesAll holding first lab → AreNoted notes lab.entries
+all_noted labs notes name holding first lab reads all =
+    entries_noted labs notes (machine_source holding all.given) [] first.entries lab.entries (none_noted notes)
+    (first_noted labs notes (file_source holding reads.given name) first reads.is) all.is
 
 -- the whole
 pub loads_lab : (command : Command) (notes : List PlugNote) (name : List ℕ) (holding : Option Holding) (first lab : LabData) (limits : Result (Unit {0}) Refusal)

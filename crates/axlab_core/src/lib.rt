@@ -3,10 +3,9 @@
 #![tactic(auto)]
 
 mod load;
-mod report;
 mod run;
 mod status;
-mod texts;
+mod telling;
 mod words;
 
 pub use run::axlab;

@@ -3,9 +3,11 @@ ghost use Rattle.std.specs.Prelude.{◌≡◌, ◌<◌, ◌≤◌, All, length, 
 ghost use Rattle.lab_ports.specs.Causes.{Rose};
 ghost use Rattle.lab_ports.specs.Holding.{IsFront, IsMissing};
 ghost use Rattle.lab_file.specs.Limits.{limits_of};
+ghost use Rattle.lab_file.specs.Notes.{AreNoted};
 ghost use Rattle.axlab_core.specs.Loading.{Loads, IsTold};
 ghost use Rattle.axlab_core.specs.Steps.{Attaches, AttachesAll, AttachStops, AttachAllStops, Explains, IsReadyEntry, ReadFails, ReadsLab};
 
+use lab_file::laws::labs_are_noted;
 use lab_file::{Command, Lab, read_lab};
 use lab_ports::{FileError, Library, LibraryError, Refusal};
 use player_core::PlugNote;
@@ -116,9 +118,11 @@ pub(crate) fn load_lab<L: Library>(
 ) -> Result<Lab, LoadError>
     ensures loads { IfOk result (λ lab. Loads command notes.now.items name.now (L.holding files.old) (Ok lab)) }
     ensures ready { IfOk result (λ lab. All IsReadyEntry lab.entries) }
+    ensures noted { IfOk result (λ lab. AreNoted notes.now.items lab.entries) }
     ensures kept { IfOk result (λ lab. limits_of notes.now.items command lab ≡ Ok tt) }
     ensures stops { IfErr result (λ error. Explains error (Rose (L.faults files.old) (L.faults files.new)) (IsTold (L.holding files.old)) (λ stop. Loads command notes.now.items name.now (L.holding files.old) (Err stop))) }
 {
+    labs_are_noted();
     let mut lab = read_first(alloc, name, notes, files)?;
     attach_files(alloc, &mut lab, files)?;
     match lab.limits(command, notes) {

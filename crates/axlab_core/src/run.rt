@@ -1,5 +1,5 @@
 //! Runs a command.
-ghost use Rattle.std.specs.Prelude.{◌≡◌, ◌≢◌, ◌↔◌, ◌<◌, ℕ, All, length, Some, Ok, IfOk, string_bytes};
+ghost use Rattle.std.specs.Prelude.{◌≡◌, ◌≢◌, ◌↔◌, ◌<◌, ◌&&◌, ℕ, All, length, Some, Ok, IfOk};
 ghost use Rattle.player_core.specs.State.{lasting_of};
 ghost use Rattle.player_core.specs.Fits.{Fits};
 ghost use Rattle.player_core.specs.Counts.{turns_of};
@@ -8,11 +8,18 @@ ghost use Rattle.lab_ports.specs.Causes.{Rose};
 ghost use Rattle.lab_ports.specs.declared.refusal.Refusal.{Refusal};
 ghost use Rattle.lab_ports.specs.declared.refusal.Refusal.TheVariants.{NotBuilt};
 ghost use Rattle.lab_file.specs.declared.command.Command.TheVariants as commands;
-ghost use Rattle.strategy_file.specs.declared.draft.Draft.TheVariants.{Ready};
+ghost use Rattle.player_core.specs.Sheet.{IsSheet};
+ghost use Rattle.lab_report.specs.Made.{match_report_of};
+ghost use Rattle.lab_report.specs.Text.{report_text};
+ghost use Rattle.lab_report.specs.Valid.{IsShowable, IsValid};
 ghost use Rattle.lab_file.specs.Lab.{IsMatchJob, entry_at};
+ghost use Rattle.lab_file.specs.Notes.{AreNoted};
+ghost use Rattle.lab_file.specs.Sure.{entry_is_sure};
 ghost use Rattle.lab_file.specs.Limits.{match_limits, limits_of};
 ghost use Rattle.axlab_core.specs.Complete.{HoldsLab, HoldsRefused, LacksFile, IsStatusOrMemory};
 ghost use Rattle.axlab_core.specs.Outcome.{OnAnswered, OnWriteFault, OnReadFault, IfRefused, IfDenied, OnUnwritten, OnOther};
+ghost use Rattle.axlab_core.specs.Entrants.{IsEntrant};
+ghost use Rattle.axlab_core.specs.RightLine.{IsRightBetween, IsAskedBetween};
 ghost use Rattle.axlab_core.specs.Right.{IsRightMatch, IsAskedMatch, Wrote, WrotePart, WhyRefused, WhyUnread, Told};
 ghost use Rattle.axlab_core.specs.Sides.{KeepsBench};
 ghost use Rattle.axlab_core.specs.Steps.{IsReadyEntry};
@@ -22,15 +29,21 @@ ghost use Rattle.axlab_core.specs.Words.{form_of, lab_name};
 ghost use Rattle.axlab_core.specs.declared.words.Form.TheVariants.{Match, Unbuilt, Faulty};
 
 use crate::load::{LoadError, load_lab};
-use crate::report::match_report;
-use crate::texts::tell;
+use crate::telling::tell;
 use crate::{Form, Status};
-use lab_file::{Command, Lab, MatchJob};
+use history_model::{NoMemory, counts_are_paid, weights_decide};
+use lab_file::laws::notes_tell;
+use lab_file::{Command, Lab, MatchJob, entry_is_sure};
 use lab_ports::{Library, Refusal, Sink, send};
-use match_play::play_sheets;
+use lab_report::{match_report, write_report};
+use lookup_player::tables_follow_their_rule;
+use machine_player::machines_follow_their_rule;
+use match_play::MatchLine;
+use memory_player::vectors_follow_their_rule;
 use player_core::laws::{keeping_lasts, sure_is_tested};
-use player_core::{Bench, Player, PlugNote, Seats, Sheet, Side};
-use std::alloc::{AllocError, Global};
+use player_core::{Bench, Player, PlugNote, Seats, Side};
+use round_robin::{Entrant, match_line};
+use std::alloc::Global;
 use strategy_file::Draft;
 
 // The name of the lab.
@@ -41,14 +54,23 @@ fn lab_name(words: &Vec<String>) -> &str
     words[1].as_str()
 }
 
-// The sheet of the entry at a place.
-fn sheet_at(lab: &Lab, place: u32) -> &Sheet
+// The entry at a place, as a side of a match.
+fn entrant(lab: &Lab, place: u32) -> Entrant<'_>
     requires inside { place < length lab.now.entries }
     requires ready { All IsReadyEntry lab.now.entries }
-    ensures { (entry_at lab.now.entries place).draft ≡ Ready result.now }
+    ensures is { IsEntrant lab.now place (record { sheet = result.sheet.now; noise = result.noise }) }
+    ensures sheet { IsSheet result.sheet.now }
 {
-    match &lab.entries.at(place as usize).draft {
-        Draft::Ready(sheet) => sheet,
+    let entry = lab.entries.at(place as usize);
+    match &entry.draft {
+        Draft::Ready(sheet) => {
+            sheet.shape();
+            Entrant {
+                place,
+                sheet,
+                noise: entry.noise,
+            }
+        }
         Draft::FromFile(_) => unreachable!(),
     }
 }
@@ -58,7 +80,7 @@ fn match_job(lab: &Lab, notes: &Vec<PlugNote>) -> MatchJob
     requires kept { limits_of notes.now.items commands.Match lab.now ≡ Ok tt }
     ensures job { lab.now.jobs.match_job ≡ Some result }
     ensures sound { IsMatchJob (length lab.now.entries) result }
-    ensures sure { match_limits notes.now.items lab.now.entries result ≡ Ok tt }
+    ensures limits { match_limits notes.now.items lab.now.entries result ≡ Ok tt }
 {
     lab.shape();
     match lab.jobs.match_job {
@@ -67,35 +89,86 @@ fn match_job(lab: &Lab, notes: &Vec<PlugNote>) -> MatchJob
     }
 }
 
-// The report of the lab's match, which the bench's players play.
+// Whether both entries of a match leave nothing to chance.
+fn is_sure(lab: &Lab, notes: &Vec<PlugNote>, job: &MatchJob) -> bool
+    requires { IsMatchJob (length lab.now.entries) job.now }
+    ensures { result ≡ (entry_is_sure notes.now.items (entry_at lab.now.entries job.now.left) && entry_is_sure notes.now.items (entry_at lab.now.entries job.now.right)) }
+{
+    entry_is_sure(notes, lab.entries.at(job.left as usize))
+        && entry_is_sure(notes, lab.entries.at(job.right as usize))
+}
+
+// The line of the lab's match, for which the bench's players are asked.
+fn job_line(
+    alloc: Global,
+    lab: &Lab,
+    notes: &Vec<PlugNote>,
+    job: &MatchJob,
+    bench: &mut Bench,
+) -> Result<MatchLine, NoMemory>
+    requires fits { Fits (lasting_of (⟦<Side as Seats>⟧.seats bench.old.left)) (lasting_of (⟦<Side as Seats>⟧.seats bench.old.right)) }
+    requires notes { notes.now.items ≡ notes_of (lasting_of (⟦<Side as Seats>⟧.seats bench.old.left)) }
+    requires sound { IsMatchJob (length lab.now.entries) job.now }
+    requires limits { match_limits notes.now.items lab.now.entries job.now ≡ Ok tt }
+    requires ready { All IsReadyEntry lab.now.entries }
+    requires noted { AreNoted notes.now.items lab.now.entries }
+    ensures right { IfOk result (IsRightBetween (lasting_of (⟦<Side as Seats>⟧.seats bench.old.left)) lab.now job.now.left job.now.right job.now.turns) }
+    ensures showable { IfOk result (IsShowable lab.now.game) }
+    ensures asked { IfOk result (λ _. IsAskedBetween (lasting_of (⟦<Side as Seats>⟧.seats bench.old.left)) lab.now job.now.left job.now.right job.now.turns (record { left = turns_of (⟦<Side as Seats>⟧.seats bench.old.left); right = turns_of (⟦<Side as Seats>⟧.seats bench.old.right) }) (record { left = turns_of (⟦<Side as Seats>⟧.seats bench.new.left); right = turns_of (⟦<Side as Seats>⟧.seats bench.new.right) })) }
+    ensures kept { KeepsBench (lasting_of (⟦<Side as Seats>⟧.seats bench.old.left)) (lasting_of (⟦<Side as Seats>⟧.seats bench.old.right)) (lasting_of (⟦<Side as Seats>⟧.seats bench.new.left)) (lasting_of (⟦<Side as Seats>⟧.seats bench.new.right)) }
+{
+    notes_tell();
+    sure_is_tested();
+    vectors_follow_their_rule();
+    machines_follow_their_rule();
+    tables_follow_their_rule();
+    weights_decide();
+    counts_are_paid();
+    let left = entrant(lab, job.left);
+    let right = entrant(lab, job.right);
+    let sure = is_sure(lab, notes, job);
+    let line = match_line(alloc, bench, &left, &right, &lab.game, job.turns, sure)?;
+    let _ends = (line.left_score.ends(), line.right_score.ends());
+    Ok(line)
+}
+
+// The report of the lab's match with this line.
+fn report_bytes(
+    alloc: Global,
+    lab: &Lab,
+    job: &MatchJob,
+    line: &MatchLine,
+) -> Result<Vec<u8>, NoMemory>
+    requires sound { IsMatchJob (length lab.now.entries) job.now }
+    requires showable { IsShowable lab.now.game line.now }
+    ensures text { IfOk result (λ bytes. bytes.items ≡ report_text (match_report_of lab.now.game lab.now.noise (entry_at lab.now.entries job.now.left).name (entry_at lab.now.entries job.now.right).name line.now)) }
+    ensures valid { IfOk result (λ _. IsValid (match_report_of lab.now.game lab.now.noise (entry_at lab.now.entries job.now.left).name (entry_at lab.now.entries job.now.right).name line.now)) }
+{
+    let left = &lab.entries.at(job.left as usize).name;
+    let right = &lab.entries.at(job.right as usize).name;
+    let report = match_report(alloc, &lab.game, &lab.noise, left, right, line)?;
+    write_report(alloc, &report)
+}
+
+// The report of the lab's match, which the bench's players are asked for.
 fn match_bytes(
     alloc: Global,
     lab: &Lab,
     notes: &Vec<PlugNote>,
     bench: &mut Bench,
-) -> Result<String, AllocError>
+) -> Result<Vec<u8>, NoMemory>
     requires fits { Fits (lasting_of (⟦<Side as Seats>⟧.seats bench.old.left)) (lasting_of (⟦<Side as Seats>⟧.seats bench.old.right)) }
     requires notes { notes.now.items ≡ notes_of (lasting_of (⟦<Side as Seats>⟧.seats bench.old.left)) }
     requires kept { limits_of notes.now.items commands.Match lab.now ≡ Ok tt }
     requires ready { All IsReadyEntry lab.now.entries }
-    ensures right { IfOk result (λ s. IsRightMatch (lasting_of (⟦<Side as Seats>⟧.seats bench.old.left)) lab.now (string_bytes s)) }
-    ensures asked { IsAskedMatch (lasting_of (⟦<Side as Seats>⟧.seats bench.old.left)) lab.now (record { left = turns_of (⟦<Side as Seats>⟧.seats bench.old.left); right = turns_of (⟦<Side as Seats>⟧.seats bench.old.right) }) (record { left = turns_of (⟦<Side as Seats>⟧.seats bench.new.left); right = turns_of (⟦<Side as Seats>⟧.seats bench.new.right) }) }
+    requires noted { AreNoted notes.now.items lab.now.entries }
+    ensures right { IfOk result (λ bytes. IsRightMatch (lasting_of (⟦<Side as Seats>⟧.seats bench.old.left)) lab.now bytes.items) }
+    ensures asked { IfOk result (λ _. IsAskedMatch (lasting_of (⟦<Side as Seats>⟧.seats bench.old.left)) lab.now (record { left = turns_of (⟦<Side as Seats>⟧.seats bench.old.left); right = turns_of (⟦<Side as Seats>⟧.seats bench.old.right) }) (record { left = turns_of (⟦<Side as Seats>⟧.seats bench.new.left); right = turns_of (⟦<Side as Seats>⟧.seats bench.new.right) })) }
     ensures kept { KeepsBench (lasting_of (⟦<Side as Seats>⟧.seats bench.old.left)) (lasting_of (⟦<Side as Seats>⟧.seats bench.old.right)) (lasting_of (⟦<Side as Seats>⟧.seats bench.new.left)) (lasting_of (⟦<Side as Seats>⟧.seats bench.new.right)) }
 {
-    sure_is_tested();
     let job = match_job(lab, notes);
-    let left = sheet_at(lab, job.left);
-    let right = sheet_at(lab, job.right);
-    let tally = play_sheets(bench, left, right, job.turns);
-    match_report(
-        alloc,
-        &lab.game,
-        &lab.noise,
-        &lab.entries.at(job.left as usize).name,
-        &lab.entries.at(job.right as usize).name,
-        job.turns,
-        &tally,
-    )
+    let line = job_line(alloc, lab, notes, &job, bench)?;
+    report_bytes(alloc, lab, &job, &line)
 }
 
 // The command `match`, over a bench whose plugs have these notes.
@@ -122,7 +195,7 @@ fn answer_match<L: Library, O: Sink>(
     keeping_lasts();
     match load_lab(alloc, Command::Match, name, notes, files) {
         Ok(lab) => match match_bytes(alloc, &lab, notes, bench) {
-            Ok(text) => match send(out, text.as_bytes()) {
+            Ok(bytes) => match send(out, bytes.as_slice()) {
                 Ok(()) => Status::Answered,
                 Err(_) => Status::WriteFault,
             },

@@ -221,21 +221,8 @@ with_noted : (notes : List PlugNote) (number : ℕ) (draft : Draft) (bytes : Lis
 with_noted notes number (Ready sheet) bytes h = one _ _ h
 with_noted notes number (FromFile machine) bytes h = ready_noted notes _ (csv_noted notes number machine bytes)
 
-noted_at : (notes : List PlugNote) (entries : List Entry) (place : ℕ) → AreNoted notes entries → IsNotedDraft notes (entry_at entries place).draft
-noted_at notes [] place h = tt
-noted_at notes (entry ∷ entries) zero h = h 0 entry (omega arith)
-noted_at notes (entry ∷ entries) (suc place) h = noted_at notes entries place (λ k d inside. h (suc k) d (omega (arith, inside)))
-
-attached_noted : (notes : List PlugNote) (lab : LabData) (place : ℕ) (bytes : List ℕ) → AreNoted notes lab.entries
-    → Only (IsNotedLab notes) (attached lab place bytes)
-attached_noted notes lab place bytes h =
-    behind (draft_with (place + 1) (entry_at lab.entries place).draft bytes) (λ draft is.
-    one _ _
-    (All-set (IsNotedEntry notes) lab.entries place (record (entry_at lab.entries place) { draft = draft })
-    ((with_noted notes (place + 1) (entry_at lab.entries place).draft bytes (noted_at notes lab.entries place h)).at draft is) h))
-
 pub labs_are_noted : LabsAreNoted
 labs_are_noted = record {
   read = λ notes bytes lab is. (lab_noted notes bytes).at lab is;
-  attached = λ notes lab new place bytes is h. (attached_noted notes lab place bytes h).at new is;
+  filed = λ notes number draft made bytes is h. (with_noted notes number draft bytes h).at made is;
 }

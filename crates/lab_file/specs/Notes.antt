@@ -10,7 +10,7 @@ use Rattle.player_core.specs.Bench.{is_sure, notes_of}
 use Rattle.strategy_file.specs.declared.draft.Draft.{Draft}
 use Rattle.strategy_file.specs.declared.draft.Draft.TheVariants.{Ready, FromFile}
 use Rattle.lab_file.specs.declared.lab.Entry.{Entry}
-use Rattle.lab_file.specs.Attached.{attached}
+use Rattle.lab_file.specs.Attached.{draft_with}
 use Rattle.lab_file.specs.Lab.{LabData}
 use Rattle.lab_file.specs.LabOf.{lab_of}
 use Rattle.lab_file.specs.Rows.{sheet_rows}
@@ -41,8 +41,8 @@ pub record NotesTell : Type 0 where
   pub rows : (players : List Lasting) (sheet : SheetData) → IsNoted (notes_of players) sheet
       → sheet_rows (notes_of players) sheet ≡ length (entry_automaton players sheet).rows
 
--- the laws of labs: each plug of a lab that is read over notes has its note, and has it still after a file was attached
+-- the laws of labs: each plug of a lab that is read over notes has its note, and a draft has it still with the bytes of its file
 pub record LabsAreNoted : Type 0 where
   pub read : (notes : List PlugNote) (bytes : List ℕ) (lab : LabData) → lab_of notes bytes ≡ Ok lab → AreNoted notes lab.entries
-  pub attached : (notes : List PlugNote) (lab new : LabData) (place : ℕ) (bytes : List ℕ) → attached lab place bytes ≡ Ok new
-      → AreNoted notes lab.entries → AreNoted notes new.entries
+  pub filed : (notes : List PlugNote) (number : ℕ) (draft made : Draft) (bytes : List ℕ) → draft_with number draft bytes ≡ Ok made
+      → IsNotedDraft notes draft → IsNotedDraft notes made
