@@ -37,7 +37,10 @@ fn fine_number(text: &str) -> Option<u128> {
 
 fn fine_span(text: &str) -> Option<Span> {
     let (lo, hi) = text.split_once("..").unwrap_or((text, text));
-    Some(Span { lo: fine_number(lo)?, hi: fine_number(hi)? })
+    Some(Span {
+        lo: fine_number(lo)?,
+        hi: fine_number(hi)?,
+    })
 }
 
 /// The two scores of the match line of axlab's report.

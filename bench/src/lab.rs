@@ -35,7 +35,11 @@ impl Automaton {
             let mask = (1 << later) - 1;
             for place in 0..1usize << (2 * age) {
                 let (mine, theirs) = (place >> age, place & ((1 << age) - 1));
-                weights.push(if age < depth { opening[age as usize] } else { table[place] });
+                weights.push(if age < depth {
+                    opening[age as usize]
+                } else {
+                    table[place]
+                });
                 next.push([0, 1, 2, 3].map(|play| {
                     let mine = (mine << 1 | play >> 1) & mask;
                     let theirs = (theirs << 1 | play & 1) & mask;
@@ -64,7 +68,13 @@ pub fn read_lab(text: &str) -> Option<Lab> {
     let n = whole(text, "n")?;
     let e = whole(text, "e")?;
     let turns = whole(text, "turns")?;
-    Some(Lab { left, right, n, e, turns })
+    Some(Lab {
+        left,
+        right,
+        n,
+        e,
+        turns,
+    })
 }
 
 fn read_side(text: &str) -> Option<Automaton> {
@@ -74,11 +84,17 @@ fn read_side(text: &str) -> Option<Automaton> {
     }
     let opening = list(text, "opening")?;
     let table = list(text, "table")?;
-    Some(Automaton::lookup(whole(text, "den")?, depth as u32, &opening, &table))
+    Some(Automaton::lookup(
+        whole(text, "den")?,
+        depth as u32,
+        &opening,
+        &table,
+    ))
 }
 
 fn value<'a>(text: &'a str, key: &str) -> Option<&'a str> {
-    text.lines().find_map(|line| line.strip_prefix(key)?.strip_prefix(" = "))
+    text.lines()
+        .find_map(|line| line.strip_prefix(key)?.strip_prefix(" = "))
 }
 
 fn whole(text: &str, key: &str) -> Option<u64> {
@@ -87,7 +103,10 @@ fn whole(text: &str, key: &str) -> Option<u64> {
 
 fn list(text: &str, key: &str) -> Option<Vec<u64>> {
     let inside = value(text, key)?.strip_prefix('[')?.strip_suffix(']')?;
-    inside.split(", ").map(|weight| weight.parse().ok()).collect()
+    inside
+        .split(", ")
+        .map(|weight| weight.parse().ok())
+        .collect()
 }
 
 /// The lab of two lookups over the last `depth` moves of both sides, with pseudo-random weights over
@@ -105,14 +124,20 @@ pub fn lab_text(depth: u32, turns: u64) -> String {
         )
         .unwrap();
     }
-    write!(text, "\n[match]\nleft = \"left\"\nright = \"right\"\nturns = {turns}\n").unwrap();
+    write!(
+        text,
+        "\n[match]\nleft = \"left\"\nright = \"right\"\nturns = {turns}\n"
+    )
+    .unwrap();
     text
 }
 
 // Weights from 0 to 10, by the high bits of a linear congruence (Knuth's MMIX).
 fn weights(seed: &mut u64, len: usize) -> Vec<u64> {
     let next = |_| {
-        *seed = seed.wrapping_mul(6364136223846793005).wrapping_add(1442695040888963407);
+        *seed = seed
+            .wrapping_mul(6364136223846793005)
+            .wrapping_add(1442695040888963407);
         (*seed >> 33) % 11
     };
     (0..len).map(next).collect()

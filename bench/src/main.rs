@@ -9,8 +9,8 @@ mod lab;
 mod methods;
 
 use agree::{disagreement, fine_spans, report_spans};
-use lab::{Lab, lab_text, read_lab};
-use methods::{Span, UNITS, doubles, one_sided, two_sided};
+use lab::{lab_text, read_lab, Lab};
+use methods::{doubles, one_sided, two_sided, Span, UNITS};
 use std::process::ExitCode;
 
 fn read(name: &str) -> Result<Lab, String> {
@@ -23,7 +23,11 @@ fn decimals(units: u128, of: u128, digits: usize) -> String {
 }
 
 fn shown(span: Span, of: u128, digits: usize) -> String {
-    format!("{}..{}", decimals(span.lo, of, digits), decimals(span.hi, of, digits))
+    format!(
+        "{}..{}",
+        decimals(span.lo, of, digits),
+        decimals(span.hi, of, digits)
+    )
 }
 
 fn agree(lab: &Lab, report: &str) -> Result<String, String> {
@@ -41,17 +45,26 @@ fn answer(words: &[&str]) -> Result<String, String> {
     let number = |word: &str| word.parse().map_err(|_| format!("{word} is no number"));
     match words {
         ["lab", depth, turns] => Ok(lab_text(number(depth)? as u32, number(turns)?)),
-        ["a", lab] => Ok(two_sided(&read(lab)?).map(|span| shown(span, UNITS, 12)).join(" ")),
+        ["a", lab] => Ok(two_sided(&read(lab)?)
+            .map(|span| shown(span, UNITS, 12))
+            .join(" ")),
         ["b", lab] => {
             let spans = fine_spans(&one_sided(&read(lab)?));
-            Ok(spans.map(|span| shown(span, UNITS * 1_000_000, 18)).join(" "))
+            Ok(spans
+                .map(|span| shown(span, UNITS * 1_000_000, 18))
+                .join(" "))
         }
-        ["c", lab] => Ok(doubles(&read(lab)?).map(|score| format!("{score:.12}")).join(" ")),
+        ["c", lab] => Ok(doubles(&read(lab)?)
+            .map(|score| format!("{score:.12}"))
+            .join(" ")),
         ["agree", lab, report] => {
-            let report = std::fs::read_to_string(report).map_err(|error| format!("{report}: {error}"))?;
+            let report =
+                std::fs::read_to_string(report).map_err(|error| format!("{report}: {error}"))?;
             agree(&read(lab)?, &report)
         }
-        _ => Err(String::from("words: lab DEPTH TURNS, a LAB, b LAB, c LAB, or agree LAB REPORT")),
+        _ => Err(String::from(
+            "words: lab DEPTH TURNS, a LAB, b LAB, c LAB, or agree LAB REPORT",
+        )),
     }
 }
 

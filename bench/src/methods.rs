@@ -48,7 +48,10 @@ pub fn two_sided(lab: &Lab) -> [Span; 2] {
                         sums[side].hi += w * (child[side].hi + pays[side][play]);
                     }
                 }
-                next[u * columns + v] = sums.map(|sum| Span { lo: sum.lo / q, hi: (sum.hi + q - 1) / q });
+                next[u * columns + v] = sums.map(|sum| Span {
+                    lo: sum.lo / q,
+                    hi: (sum.hi + q - 1) / q,
+                });
             }
         }
         std::mem::swap(&mut cells, &mut next);
@@ -103,7 +106,11 @@ pub fn one_sided(lab: &Lab) -> OneSided {
         }
         std::mem::swap(&mut cells, &mut next);
     }
-    OneSided { low: cells[0], error: 4 * lab.turns as u128, scale }
+    OneSided {
+        low: cells[0],
+        error: 4 * lab.turns as u128,
+        scale,
+    }
 }
 
 /// (c) The same in double precision, with no bound on the error.
