@@ -301,10 +301,10 @@ first_noted : LabsAreNoted → (notes : List PlugNote) (found : Option (List ℕ
 first_noted labs notes None lab read = absurd (cc)
 first_noted labs notes (Some bytes) lab read = labs.read notes bytes lab (not_stopped (lab_of notes bytes) lab read)
 
-pub all_noted : LabsAreNoted → (notes : List PlugNote) (name : List ℕ) (holding : Option Holding) (first lab : LabData)
-    → ReadsLab notes name holding (Ok first) → AttachesAll holding first lab → AreNoted notes lab.entries
-all_noted labs notes name holding first lab reads all =
-    entries_noted labs notes (machine_source holding all.given) [] first.entries lab.entries (none_noted notes)
+pub all_noted : LabsAreNoted → (notes : List PlugNote) (name : List ℕ) (holding later : Option Holding) (first lab : LabData)
+    → ReadsLab notes name holding (Ok first) → AttachesAll later first lab → AreNoted notes lab.entries
+all_noted labs notes name holding later first lab reads all =
+    entries_noted labs notes (machine_source later all.given) [] first.entries lab.entries (none_noted notes)
     (first_noted labs notes (file_source holding reads.given name) first reads.is) all.is
 
 -- the whole

@@ -128,7 +128,12 @@ fn job_line(
     let right = entrant(lab, job.right);
     let sure = is_sure(lab, notes, job);
     let line = match_line(alloc, bench, &left, &right, &lab.game, job.turns, sure)?;
-    let _ends = (line.left_score.ends(), line.right_score.ends());
+    // The payoffs and the ends are in order by their types.
+    let _ranges = (
+        lab.game.unsigned(),
+        line.left_score.ends(),
+        line.right_score.ends(),
+    );
     Ok(line)
 }
 

@@ -5,4 +5,4 @@ pub returns-in-Ok-clause-ready : goal.returns-in-Ok-clause-ready
 returns-in-Ok-clause-ready g c = all_ready _ _ _ c.in_ok-attach_files.ensures.attaches
 
 pub returns-in-Ok-clause-noted : goal.returns-in-Ok-clause-noted
-returns-in-Ok-clause-noted g c = all_noted c.labs_are_noted.ensures _ _ _ _ _ c.in_ok-read_first.ensures.reads c.in_ok-attach_files.ensures.attaches
+returns-in-Ok-clause-noted g c = all_noted c.labs_are_noted.ensures _ _ _ _ _ _ c.in_ok-lab.ensures.reads c.in_ok-attach_files.ensures.attaches

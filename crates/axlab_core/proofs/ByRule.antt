@@ -1,0 +1,71 @@
+-- Entries choose as their automata do, so what their automata expect is what they expect.
+use Rattle.std.proofs.Common.{◌≡◌, ℕ, List, Option, Some, None, refl, ap}
+use Rattle.history_model.specs.Automaton.{Automaton}
+use Rattle.history_model.specs.Expectation.{Chooser, player, ChooseAlike, WeightsDecide}
+use Rattle.history_model.specs.History.{History}
+use Rattle.history_model.specs.Noise.{FlipRate}
+use Rattle.history_model.specs.Game.{Payoffs}
+use Rattle.history_model.specs.declared.tally.Tally.{Tally}
+use Rattle.fixed_span.specs.Span.{Ends, Fraction, Holds, score_units}
+use Rattle.player_core.specs.declared.kind.Kind.{Kind}
+use Rattle.player_core.specs.declared.kind.Kind.TheVariants.{MemoryOne, Machine, Lookup, Plug}
+use Rattle.player_core.specs.State.{Lasting}
+use Rattle.player_core.specs.Sheet.{SheetData, IsSheet}
+use Rattle.player_core.specs.Fits.{Fits}
+use Rattle.player_core.specs.Entry.{entry_automaton, plug_automaton}
+use Rattle.player_core.specs.Rule.{own_rule, rule, FollowsRule}
+use Rattle.match_play.specs.declared.line.MatchLine.{MatchLine}
+use Rattle.product_chain.specs.Expected.{expected_score}
+use Rattle.round_robin.specs.Line.{IsExpected, IsLineOf, IsScored}
+use Rattle.lab_file.specs.Lab.{LabData}
+use Rattle.axlab_core.specs.Entrants.{Entrant, IsEntrant, rule_player, expects}
+use Rattle.axlab_core.specs.RightLine.{IsRightScore, IsRightBetween}
+
+holds_same : (span : Ends) (x y : Fraction) → x ≡ y → Holds score_units span x → Holds score_units span y
+holds_same span x y same holds = rw (← same) holds
+
+module _ (vectors : FollowsRule MemoryOne) (machines : FollowsRule Machine) (tables : FollowsRule Lookup) (decide : WeightsDecide) (players on_the_right : List Lasting) (fits : Fits players on_the_right) where
+  by_kind : (kind : Kind) (sheet : SheetData) (history : History) → IsSheet sheet → sheet.kind ≡ kind
+      → own_rule (entry_automaton players sheet) history ≡ rule sheet (plug_automaton players sheet.plug) history
+  by_kind MemoryOne sheet history valid is = vectors sheet (plug_automaton players sheet.plug) history valid is
+  by_kind Machine sheet history valid is = machines sheet (plug_automaton players sheet.plug) history valid is
+  by_kind Lookup sheet history valid is = tables sheet (plug_automaton players sheet.plug) history valid is
+  by_kind Plug sheet history valid is = rw is refl
+
+  alike : (entrant : Entrant) → IsSheet entrant.sheet → ChooseAlike (player (entry_automaton players entrant.sheet)) (rule_player players entrant)
+  alike entrant valid = record { den = refl; weight = λ history. by_kind entrant.sheet.kind entrant.sheet history valid refl }
+
+  expects_alike : (lab : LabData) (turns : ℕ) (own other : Entrant) → IsSheet own.sheet → IsSheet other.sheet
+      → expected_score (player (entry_automaton players own.sheet)) own.noise (player (entry_automaton players other.sheet)) other.noise lab.game 0 turns
+      ≡ expects players lab turns own other
+  expects_alike lab turns own other valid other_valid =
+      ap (λ z. record { numerator = z; denominator = (expects players lab turns own other).denominator })
+      (decide _ _ own.noise _ _ other.noise lab.game 0 turns (alike own valid) (alike other other_valid))
+
+  module _ (lab : LabData) (left right : Entrant) (left_valid : IsSheet left.sheet) (right_valid : IsSheet right.sheet) where
+    right_score : (line : MatchLine) (tally : Option Tally)
+        → IsScored (entry_automaton players left.sheet) left.noise (entry_automaton players right.sheet) right.noise lab.game line.turns line tally
+        → IsRightScore players lab left right line tally
+    right_score line (Some tally) played = record { sure = played.sure; plays = played.plays; left_score = played.left; right_score = played.right }
+    right_score line None mixed = record {
+      unsure = mixed.unsure;
+      left_holds = holds_same line.left_score _ (expects players lab line.turns left right) (expects_alike lab line.turns left right left_valid right_valid) mixed.left.holds;
+      right_holds = holds_same line.right_score _ (expects players lab line.turns right left) (expects_alike lab line.turns right left right_valid left_valid) mixed.right.holds;
+      left_width = mixed.left.width;
+      right_width = mixed.right.width;
+      left_tight = mixed.left.narrow;
+      right_tight = mixed.right.narrow;
+    }
+
+    -- the line of two automata is right for the entries that they play for
+    pub right_between : (i j turns : ℕ) (line : MatchLine) (game : Payoffs) → game ≡ lab.game → IsEntrant lab i left → IsEntrant lab j right → line.turns ≡ turns
+        → IsLineOf (entry_automaton players left.sheet) left.noise (entry_automaton players right.sheet) right.noise game turns line
+        → IsRightBetween players lab i j turns line
+    right_between i j turns line game of_lab left_is right_is turns_are scored = record {
+      left = left;
+      right = right;
+      left_is = left_is;
+      right_is = right_is;
+      turns_are = turns_are;
+      score = right_score line line.tally (rw (of_lab, ← turns_are) at scored);
+    }
