@@ -17,7 +17,7 @@ use Rattle.history_model.specs.Tally.{counts, left_points, right_points, CountsA
 use Rattle.history_model.specs.declared.tally.Tally.{Tally}
 use Rattle.fixed_span.specs.Span.{Ends, Fraction, Holds, point, score_units}
 use Rattle.product_chain.specs.Expected.{expected_score, IsSureMatch}
-use Rattle.round_robin.specs.Laws.{AreSides, ArePointsExpected, HoldsExpectations, LinesHold}
+use Rattle.round_robin.specs.Laws.{AreSides, ArePointsExpected, HoldsExpectations}
 use Rattle.round_robin.specs.Line.{IsScored}
 use Rattle.match_play.specs.declared.line.MatchLine.{MatchLine}
 
@@ -135,7 +135,7 @@ held_point units k q x above below =
     record { low = rw (left, right) (omega (arith, ints)); high = rw (left, right) (omega (arith, ints)) }
 
 -- the line of a sure match, and of any other
-held_by : (a : Automaton) (na : FlipRate) (b : Automaton) (nb : FlipRate) (game : Payoffs) (n : ℕ) (line : MatchLine) (tally : Option Tally)
+pub held_by : (a : Automaton) (na : FlipRate) (b : Automaton) (nb : FlipRate) (game : Payoffs) (n : ℕ) (line : MatchLine) (tally : Option Tally)
     → (IsSureMatch a na b nb → ArePointsExpected a na b nb game n) → IsScored a na b nb game n line tally → HoldsExpectations a na b nb game n line
 held_by a na b nb game n line None expected scored = record { left = scored.left.holds; right = scored.right.holds }
 held_by a na b nb game n line (Some tally) expected scored =
@@ -150,10 +150,3 @@ held_by a na b nb game n line (Some tally) expected scored =
       right = subst Q (sym (scored.right ∙ ap point right_points_are))
           (held_point score_units (right_points game (counts (match_path a b n))) (quotient (player b) nb (player a) na ^ n) _ are.right refl);
     }
-
-pub lines_hold : AutomataAreWeighed → OffsetLowers → HistoriesAgreeWithRows → CountsArePaid → LinesHold
-lines_hold weighed lowers agree paid = record {
-  sure = points_expected weighed lowers agree paid;
-  line = λ a na b nb game n line sides is.
-      held_by a na b nb game n line line.tally (λ sure. points_expected weighed lowers agree paid a na b nb game n sides sure) is;
-}

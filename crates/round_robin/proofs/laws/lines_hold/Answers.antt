@@ -1,4 +1,4 @@
-use Rattle.round_robin.proofs.Paying.{lines_hold}
+use Rattle.round_robin.proofs.Ranging.{lines_hold}
 use Rattle.round_robin.proofs.laws.lines_hold.Goals as goal
 
 pub returns : goal.returns
