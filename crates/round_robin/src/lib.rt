@@ -2,6 +2,7 @@
 #![tactic(auto)]
 
 mod entrant;
+pub mod laws;
 mod lines;
 
 pub use entrant::Entrant;
