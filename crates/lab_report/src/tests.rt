@@ -1,5 +1,8 @@
 //! Reports against texts that were worked out by hand.
-use crate::{Body, ReportError, match_report, read_report, write_report};
+ghost use Rattle.std.specs.Prelude.{IfOk};
+ghost use Rattle.lab_report.specs.Valid.{IsValid};
+
+use crate::{Body, Report, ReportError, match_report, read_report, write_report};
 use fixed_span::Span;
 use history_model::{Game, Name, Noise, Tally};
 use match_play::MatchLine;
@@ -34,6 +37,17 @@ fn changed(
         text.push_str(if k == place { new } else { line })?;
     }
     Ok(text)
+}
+
+// Reads a short text.
+fn read(alloc: Global, text: &String) -> Result<Report, ReportError>
+    ensures { IfOk result IsValid }
+{
+    if text.len() < 1000 {
+        read_report(alloc, text.as_bytes())
+    } else {
+        Err(ReportError::NoMemory)
+    }
 }
 
 #[test]
@@ -84,7 +98,7 @@ fn reads_what_it_writes(rt: HostRuntime) -> Result<(), Fail> {
         ),
     ] {
         let text = changed(rt.alloc(), lines, 5, "")?;
-        let report = read_report(rt.alloc(), text.as_bytes())?;
+        let report = read(rt.alloc(), &text)?;
         assert_eq!(rt; report.names.as_slice().len(), names);
         let Body::Match { line } = &report.body;
         assert_eq!(rt; (line.left, line.right), (0, right));
@@ -138,7 +152,7 @@ fn refuses_the_first_bad_line(rt: HostRuntime) -> Result<(), Fail> {
         (4, "end\nx", 6),
     ] {
         let text = changed(rt.alloc(), &SURE, place, new)?;
-        match read_report(rt.alloc(), text.as_bytes()) {
+        match read(rt.alloc(), &text) {
             Ok(_) => return Err(Fail::from("read")),
             Err(error) => assert_eq!(rt; error, ReportError::BadLine(number), "at {new}"),
         }
