@@ -43,25 +43,45 @@ placed_match names m = record {
   tally = m.tally;
 }
 
+-- the names with those of a match that are new
 abbrev pub names_with_match : List (List ℕ) → ShownMatch → List (List ℕ)
 names_with_match names m = with_name (with_name names m.left) m.right
 
--- ---- the lines of a body
-
-abbrev pub no_lines : Kind → BodySoFar
-no_lines kinds.Match = parts.Match None
-
--- one match
+-- one match: its line, and then the end
 abbrev pub match_allows : Payoffs → Option MatchLine → Line → Bool
 match_allows game None (lines.Match m) = pays game m.left_score m.right_score m.tally
 match_allows game (Some line) lines.End = true
 match_allows _ _ _ = false
 
+-- what a line behind that of a match leaves, or behind none yet
+abbrev pub after_match : Payoffs → FlipRate → List (List ℕ) → Option MatchLine → Line → State
+after_match game noise names None (lines.Match m) =
+    states.InBody game noise (names_with_match names m) (parts.Match (Some (placed_match names m)))
+after_match game noise names (Some line) lines.End = states.Ended game noise names (bodies.Match line)
+after_match game noise names line _ = states.InBody game noise names (parts.Match line)
+
+-- ---- the lines of a body, by what the report is of
+
+-- no line of a body yet
+abbrev pub no_lines : Kind → BodySoFar
+no_lines kinds.Match = parts.Match None
+
+-- whether a line may follow those of a body
 abbrev pub body_allows : Payoffs → BodySoFar → Line → Bool
 body_allows game (parts.Match line) i = match_allows game line i
 
--- ---- reports
+-- what a line behind those of a body leaves
+abbrev pub after_body : Payoffs → FlipRate → List (List ℕ) → BodySoFar → Line → State
+after_body game noise names (parts.Match line) i = after_match game noise names line i
 
+-- so few names so far that those of one more line have places
+abbrev pub HasRoom : BodySoFar → List (List ℕ) → Type 0
+HasRoom (parts.Match None) names = names ≡ []
+HasRoom (parts.Match (Some line)) names = Unit {0}
+
+-- ---- reports: the first line, the game, the noise, the body's lines and the end
+
+-- whether a line may stand behind those that led to a state
 abbrev pub allows : State → Line → Bool
 allows states.Start (lines.Head kind) = true
 allows (states.AfterHead kind) (lines.Game game) = true
@@ -69,32 +89,23 @@ allows (states.AfterGame kind game) (lines.Noise noise) = true
 allows (states.InBody game noise names body) i = body_allows game body i
 allows _ _ = false
 
--- what a line of the body leaves
-abbrev pub after_in_body : Payoffs → FlipRate → List (List ℕ) → BodySoFar → Line → State
-after_in_body game noise names (parts.Match None) (lines.Match m) =
-    states.InBody game noise (names_with_match names m) (parts.Match (Some (placed_match names m)))
-after_in_body game noise names (parts.Match (Some line)) lines.End = states.Ended game noise names (bodies.Match line)
-after_in_body game noise names body _ = states.InBody game noise names body
-
+-- what it leaves then
 abbrev pub after : State → Line → State
 after states.Start (lines.Head kind) = states.AfterHead kind
 after (states.AfterHead kind) (lines.Game game) = states.AfterGame kind game
 after (states.AfterGame kind game) (lines.Noise noise) = states.InBody game noise [] (no_lines kind)
-after (states.InBody game noise names body) i = after_in_body game noise names body i
+after (states.InBody game noise names body) i = after_body game noise names body i
 after state _ = state
 
--- so few names so far that those of one more line have places
-abbrev pub HasRoom : BodySoFar → List (List ℕ) → Type 0
-HasRoom (parts.Match None) names = names ≡ []
-HasRoom (parts.Match (Some line)) names = Unit {0}
-
-abbrev pub StateHasRoom : State → Type 0
-StateHasRoom (states.InBody game noise names body) = HasRoom body names
-StateHasRoom _ = Unit {0}
-
+-- behind the last line
 abbrev pub is_ended : State → Bool
 is_ended (states.Ended game noise names body) = true
 is_ended _ = false
+
+-- the names so far of a state leave room for those of one more line
+abbrev pub StateHasRoom : State → Type 0
+StateHasRoom (states.InBody game noise names body) = HasRoom body names
+StateHasRoom _ = Unit {0}
 
 -- the lines of reports, each with what may come before it
 abbrev pub grammar : Grammar State Line

@@ -10,6 +10,7 @@ use Rattle.lab_report.specs.declared.report.Report.{Report}
 abbrev pub names_of_pair : List ℕ → List ℕ → List (List ℕ)
 names_of_pair left right = if bytes_eq left right then left ∷ [] else left ∷ right ∷ []
 
+-- a report of version 1, whose match is between the names' places
 abbrev pub match_report_of : Payoffs → FlipRate → List ℕ → List ℕ → MatchLine → Report
 match_report_of game noise left right line = record {
   version = 1;

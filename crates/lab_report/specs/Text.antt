@@ -12,6 +12,7 @@ use Rattle.lab_report.specs.declared.report.Body.TheVariants as bodies
 use Rattle.lab_report.specs.declared.report.Report.{Report}
 use Rattle.lab_report.specs.Names.{name_at}
 
+-- what the first line says of a body
 abbrev pub kind_of : Body → Kind
 kind_of (bodies.Match line) = kinds.Match
 
@@ -26,9 +27,11 @@ shown_match names line = record {
   tally = line.tally;
 }
 
+-- the lines of a body, with names in place of places
 abbrev pub body_lines : List (List ℕ) → Body → List Line
 body_lines names (bodies.Match line) = lines.Match (shown_match names line) ∷ []
 
+-- all lines of a report
 abbrev pub lines_of : Report → List Line
 lines_of report =
     lines.Head (kind_of report.body) ∷ lines.Game report.game ∷ lines.Noise report.noise ∷ (body_lines report.names report.body ++ lines.End ∷ [])
@@ -38,5 +41,6 @@ abbrev pub text_of_lines : List Line → List ℕ
 text_of_lines [] = []
 text_of_lines (line ∷ more) = line_text line ++ 10 ∷ text_of_lines more
 
+-- the text of a report
 abbrev pub report_text : Report → List ℕ
 report_text report = text_of_lines (lines_of report)

@@ -39,6 +39,7 @@ pub record IsMatchOf (count : ℕ) (game : Payoffs) (line : MatchLine) : Type 0 
   pub right : line.right < count
   pub showable : IsShowable game line
 
+-- a body with places among so many names
 abbrev pub IsBody : ℕ → Payoffs → Body → Type 0
 IsBody count game (bodies.Match line) = IsMatchOf count game line
 
@@ -46,6 +47,7 @@ IsBody count game (bodies.Match line) = IsMatchOf count game line
 abbrev pub shown_names : List (List ℕ) → Body → List (List ℕ)
 shown_names names (bodies.Match line) = name_at names line.left ∷ name_at names line.right ∷ []
 
+-- a report of version 1: its parts are in range, and its names are those that it shows, each once, in order of first appearance
 pub record IsValid (report : Report) : Type 0 where
   pub version : report.version ≡ 1
   pub offset : report.offset ≡ 0

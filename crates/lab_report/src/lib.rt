@@ -8,6 +8,8 @@ mod reading;
 mod report;
 mod rules;
 mod state;
+#[cfg(test)]
+mod tests;
 mod writing;
 
 pub use laws::one_report_a_text;

@@ -1,7 +1,8 @@
 //! Which line may follow which, and what it leaves.
 ghost use Rattle.std.specs.Prelude.{◌≡◌, ◌≤◌, ◌^◌, true, [], IfOk, OnOk};
 ghost use Rattle.report_lines.specs.Texts.{counts_are, is_match, is_line};
-ghost use Rattle.lab_report.specs.Grammar.{is_paid, pays, match_allows, body_allows, allows, no_lines, names_with_match, placed_match, after_in_body, after, HasRoom, StateHasRoom};
+ghost use Rattle.lab_report.specs.declared.state.BodySoFar.TheVariants as parts;
+ghost use Rattle.lab_report.specs.Grammar.{is_paid, pays, match_allows, body_allows, allows, no_lines, names_with_match, placed_match, after_match, after_body, after, HasRoom, StateHasRoom};
 
 use crate::state::{BodySoFar, State};
 use crate::{Body, Names};
@@ -95,19 +96,19 @@ fn placed_match(names: &mut Names, found: &ShownMatch) -> Result<MatchLine, Allo
     })
 }
 
-// What a line of the body leaves.
-fn after_in_body(
+// What a line behind that of a match leaves, or behind none yet.
+fn after_match(
     game: Game,
     noise: Noise,
     mut names: Names,
-    body: BodySoFar,
+    line: Option<MatchLine>,
     next: Line,
 ) -> Result<State, AllocFailed<Name>>
-    requires { HasRoom body names }
-    ensures { IfOk result (λ state. state ≡ after_in_body game noise names body next) }
+    requires { HasRoom (parts.Match line) names }
+    ensures { IfOk result (λ state. state ≡ after_match game noise names line next) }
 {
-    match (body, next) {
-        (BodySoFar::Match { line: None }, Line::Match(found)) => {
+    match (line, next) {
+        (None, Line::Match(found)) => {
             let line = placed_match(&mut names, &found)?;
             Ok(State::InBody {
                 game,
@@ -116,18 +117,34 @@ fn after_in_body(
                 body: BodySoFar::Match { line: Some(line) },
             })
         }
-        (BodySoFar::Match { line: Some(line) }, Line::End) => Ok(State::Ended {
+        (Some(line), Line::End) => Ok(State::Ended {
             game,
             noise,
             names,
             body: Body::Match { line },
         }),
-        (body, _) => Ok(State::InBody {
+        (line, _) => Ok(State::InBody {
             game,
             noise,
             names,
-            body,
+            body: BodySoFar::Match { line },
         }),
+    }
+}
+
+// What a line behind those of a body leaves.
+fn after_body(
+    game: Game,
+    noise: Noise,
+    names: Names,
+    body: BodySoFar,
+    next: Line,
+) -> Result<State, AllocFailed<Name>>
+    requires { HasRoom body names }
+    ensures { IfOk result (λ state. state ≡ after_body game noise names body next) }
+{
+    match body {
+        BodySoFar::Match { line } => after_match(game, noise, names, line, next),
     }
 }
 
@@ -159,7 +176,7 @@ pub(crate) fn after(alloc: Global, state: State, next: Line) -> Result<State, Al
             noise,
             names,
             body,
-        } => after_in_body(game, noise, names, body, next),
+        } => after_body(game, noise, names, body, next),
         State::Ended {
             game,
             noise,

@@ -16,25 +16,31 @@ use Rattle.report_lines.specs.declared.line.Line.{Line}
 use Rattle.report_lines.specs.declared.line.Line.TheVariants as lines
 use Rattle.report_lines.specs.Texts.{is_payoff, is_noise, line_text, is_line}
 
--- the first field, and what stands behind it
+-- the first field
 abbrev pub field : List ℕ → List ℕ
 field t = before 124 t
 
+-- what stands behind the first field
 abbrev pub rest : List ℕ → List ℕ
 rest t = behind 124 t
 
+-- the name that a field is
 abbrev pub name_of : List ℕ → Option (List ℕ)
 name_of t = if is_name t then Some t else None
 
+-- the score that a field shows
 abbrev pub score_of : List ℕ → Option Ends
 score_of t = span_of 12 t
 
+-- what a report is of, by its word
 unfoldable pub kind_of : List ℕ → Option Kind
 kind_of t = if bytes_eq t (codes "match") then Some kinds.Match else None
 
+-- the payoff that a field shows
 unfoldable pub payoff_of : List ℕ → Option ℕ
 payoff_of t = small t >>= λ pay. if is_payoff pay then Some pay else None
 
+-- the payoffs, in what stands behind `game`
 unfoldable pub game_of : List ℕ → Option Payoffs
 game_of t = do
   r ← payoff_of (field t)
@@ -43,15 +49,18 @@ game_of t = do
   p ← payoff_of (field (rest (rest (rest t))))
   Some (record { r = r; s = s; t = u; p = p })
 
+-- a noise that is one
 abbrev pub in_range : FlipRate → Option FlipRate
 in_range noise = if is_noise noise then Some noise else None
 
+-- the noise, in what stands behind `noise`
 unfoldable pub noise_of : List ℕ → Option FlipRate
 noise_of t = do
   n ← small (field t)
   e ← small (field (rest t))
   in_range (record { n = n; e = e })
 
+-- the counts, in what stands behind the numbers of moves C
 unfoldable pub tally_of : List ℕ → Option Tally
 tally_of t = do
   cc ← small (field t)
@@ -60,7 +69,7 @@ tally_of t = do
   dd ← small (field (rest (rest (rest t))))
   Some (record { cc = cc; cd = cd; dc = dc; dd = dd })
 
--- the counts, in what stands behind the winner
+-- the counts where the match is sure, in what stands behind the winner
 unfoldable pub counts_of : List ℕ → Option (Option Tally)
 counts_of t = if bytes_eq (field t) (codes "sure") then (tally_of (rest (rest (rest t))) >>= λ tally. Some (Some tally)) else Some None
 
@@ -72,6 +81,7 @@ scores_of t = do
   counts ← counts_of (rest (rest (rest t)))
   Some (left, right, counts)
 
+-- the match, in what stands behind `match`
 unfoldable pub match_of : List ℕ → Option ShownMatch
 match_of t = do
   left ← name_of (field t)
@@ -89,6 +99,7 @@ guess t =
     if bytes_eq (field t) (codes "noise") then (noise_of (rest t) >>= λ noise. Some (lines.Noise noise)) else
     if bytes_eq (field t) (codes "end") then Some lines.End else None
 
+-- a line that is in range and has this text
 abbrev pub if_text : List ℕ → Line → Option Line
 if_text t line = if is_line line && bytes_eq (line_text line) t then Some line else None
 

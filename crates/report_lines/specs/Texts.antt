@@ -17,10 +17,11 @@ use Rattle.report_lines.specs.declared.line.ShownMatch.{ShownMatch}
 use Rattle.report_lines.specs.declared.line.Line.{Line}
 use Rattle.report_lines.specs.declared.line.Line.TheVariants as lines
 
--- the first line: the version, and what the report is of
+-- what a report is of, as a word
 abbrev pub kind_word : Kind → List ℕ
 kind_word kinds.Match = codes "match"
 
+-- the first line: the version, and what the report is of
 abbrev pub head_text : Kind → List ℕ
 head_text kind = codes "axlab|1|" ++ kind_word kind
 
@@ -29,6 +30,7 @@ abbrev pub is_dilemma : Payoffs → Bool
 is_dilemma game =
     (nat_lt game.r game.t && nat_lt game.p game.r) && (nat_lt game.s game.p && nat_lt (game.t + game.s) (2 * game.r))
 
+-- whether a game is a prisoner's dilemma, as a word
 abbrev pub dilemma_word : Bool → List ℕ
 dilemma_word dilemma = if dilemma then codes "yes" else codes "no"
 
@@ -38,6 +40,7 @@ game_text game =
     codes "game|" ++ (decimal game.r ++ (codes "|" ++ (decimal game.s ++ (codes "|" ++ (decimal game.t ++ (codes "|" ++ (decimal game.p
     ++ (codes "|dilemma|" ++ dilemma_word (is_dilemma game)))))))))
 
+-- the noise n/e of every player
 abbrev pub noise_text : FlipRate → List ℕ
 noise_text noise = codes "noise|" ++ (decimal noise.n ++ (codes "|" ++ decimal noise.e))
 
@@ -69,9 +72,11 @@ counts_text (Some tally) =
     codes "sure|" ++ (decimal (tally.cc + tally.cd) ++ (codes "|" ++ (decimal (tally.cc + tally.dc) ++ (codes "|" ++ (decimal tally.cc
     ++ (codes "|" ++ (decimal tally.cd ++ (codes "|" ++ (decimal tally.dc ++ (codes "|" ++ decimal tally.dd))))))))))
 
+-- a match: its players and turns, scores and counts
 abbrev pub match_text : ShownMatch → List ℕ
 match_text m = players_text m.left m.right m.turns ++ (scores_text m.left_score m.right_score ++ counts_text m.tally)
 
+-- each kind of line
 abbrev pub line_text : Line → List ℕ
 line_text (lines.Head kind) = head_text kind
 line_text (lines.Game game) = game_text game
@@ -81,9 +86,11 @@ line_text lines.End = codes "end"
 
 -- ---- the ranges of what a line shows
 
+-- from 0 to 1,000,000
 abbrev pub is_payoff : ℕ → Bool
 is_payoff pay = nat_le pay 1000000
 
+-- all four payoffs are in range
 abbrev pub are_payoffs : Payoffs → Bool
 are_payoffs game = (is_payoff game.r && is_payoff game.s) && (is_payoff game.t && is_payoff game.p)
 
@@ -91,6 +98,7 @@ are_payoffs game = (is_payoff game.r && is_payoff game.s) && (is_payoff game.t &
 abbrev pub is_noise : FlipRate → Bool
 is_noise noise = (nat_le 1 noise.e && nat_le noise.e 1000) && nat_le (2 * noise.n) noise.e
 
+-- from 1 to 10^12
 abbrev pub is_turns : ℕ → Bool
 is_turns turns = nat_le 1 turns && nat_le turns (10 ^ 12)
 
@@ -103,10 +111,12 @@ abbrev pub counts_are : ℕ → Option Tally → Bool
 counts_are turns None = true
 counts_are turns (Some tally) = total tally == turns
 
+-- all that a match shows is in range
 abbrev pub is_match : ShownMatch → Bool
 is_match m =
     (is_name m.left && is_name m.right) && ((is_turns m.turns && is_score m.left_score) && (is_score m.right_score && counts_are m.turns m.tally))
 
+-- each kind of line
 abbrev pub is_line : Line → Bool
 is_line (lines.Head kind) = true
 is_line (lines.Game game) = are_payoffs game

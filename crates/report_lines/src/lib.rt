@@ -4,6 +4,8 @@
 mod laws;
 mod line;
 mod reading;
+#[cfg(test)]
+mod tests;
 mod writing;
 
 pub use laws::lines_are_exact;

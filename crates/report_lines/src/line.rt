@@ -9,15 +9,19 @@ pub enum Kind {
     Match,
 }
 
-/// A match as its line shows it, with the names of its players: the turns, what the two scored in
-/// units of 10^-12, and, exactly where the match is sure, how often each play came.
+/// A match as its line shows it, with the names of its players: the turns, what the two scored, and,
+/// exactly where the match is sure, how often each play came. The ranges are those of lines that are
+/// printed and read, and not the type's.
 #[derive(Clone, Copy)]
 pub struct ShownMatch {
     pub left: Name,
     pub right: Name,
+    /// From 1 to 10^12.
     pub turns: u64,
+    /// From 0 to 10^33 units of 10^-12, as the right score.
     pub left_score: Span,
     pub right_score: Span,
+    /// Its counts sum to the turns.
     pub tally: Option<Tally>,
 }
 

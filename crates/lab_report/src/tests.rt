@@ -1,0 +1,161 @@
+//! Reports against texts that were worked out by hand.
+ghost use Rattle.std.specs.Prelude.{IfOk};
+ghost use Rattle.lab_report.specs.Valid.{IsValid};
+
+use crate::{Body, Report, ReportError, match_report, read_report, write_report};
+use fixed_span::Span;
+use history_model::{Game, Name, Noise, Tally};
+use match_play::MatchLine;
+use std::alloc::{AllocError, Global};
+use std::test::Fail;
+
+const SURE: [&str; 5] = [
+    "axlab|1|match\n",
+    "game|3|0|5|1|dilemma|yes\n",
+    "noise|0|1\n",
+    "match|Tit for Tat|Random|6|12.000000000000|17.000000000000|right|sure|4|3|2|2|1|1\n",
+    "end\n",
+];
+
+const MIXED: [&str; 5] = [
+    "axlab|1|match\n",
+    "game|3|1|5|1|dilemma|no\n",
+    "noise|1|100\n",
+    "match|A|A|250|500.000000000001..500.000000000002|500.000000000002..501.000000000000|undecided|mixed\n",
+    "end\n",
+];
+
+// The text of these lines, with another text in place of the one at a place.
+fn changed(
+    alloc: Global,
+    lines: &[&str; 5],
+    place: usize,
+    new: &str,
+) -> Result<String, AllocError> {
+    let mut text = String::new(alloc);
+    for (k, line) in lines.iter().enumerate() {
+        text.push_str(if k == place { new } else { line })?;
+    }
+    Ok(text)
+}
+
+// Reads a short text.
+fn read(alloc: Global, text: &String) -> Result<Report, ReportError>
+    ensures { IfOk result IsValid }
+{
+    if text.len() < 1000 {
+        read_report(alloc, text.as_bytes())
+    } else {
+        Err(ReportError::NoMemory)
+    }
+}
+
+#[test]
+fn writes_matches(rt: HostRuntime) -> Result<(), Fail> {
+    let name = Name::read(b"Tit for Tat").ok_or("no name")?;
+    let other = Name::read(b"Random").ok_or("no name")?;
+    let line = MatchLine {
+        left: 7,
+        right: 3,
+        turns: 6,
+        left_score: Span::point(12_000_000_000_000),
+        right_score: Span::point(17_000_000_000_000),
+        tally: Some(Tally {
+            cc: 2,
+            cd: 2,
+            dc: 1,
+            dd: 1,
+        }),
+    };
+    let game = Game {
+        r: 3,
+        s: 0,
+        t: 5,
+        p: 1,
+    };
+    let noise = Noise { n: 0, e: 1 };
+    let report = match_report(rt.alloc(), &game, &noise, &name, &other, &line)?;
+    let bytes = write_report(rt.alloc(), &report)?;
+    let text = changed(rt.alloc(), &SURE, 5, "")?;
+    assert_eq!(rt; bytes.as_slice(), text.as_bytes());
+    Ok(())
+}
+
+#[test]
+fn reads_what_it_writes(rt: HostRuntime) -> Result<(), Fail> {
+    let half = 500_000_000_000_000;
+    for (lines, names, right, left_score, sure) in [
+        (&SURE, 2, 1, Span::point(12_000_000_000_000), true),
+        (
+            &MIXED,
+            1,
+            0,
+            Span {
+                lo: half + 1,
+                hi: half + 2,
+            },
+            false,
+        ),
+    ] {
+        let text = changed(rt.alloc(), lines, 5, "")?;
+        let report = read(rt.alloc(), &text)?;
+        assert_eq!(rt; report.names.as_slice().len(), names);
+        let Body::Match { line } = &report.body;
+        assert_eq!(rt; (line.left, line.right), (0, right));
+        assert_eq!(rt; line.left_score, left_score);
+        assert_eq!(rt; line.tally.is_some(), sure);
+        let bytes = write_report(rt.alloc(), &report)?;
+        assert_eq!(rt; bytes.as_slice(), text.as_bytes());
+    }
+    Ok(())
+}
+
+#[test]
+fn refuses_the_first_bad_line(rt: HostRuntime) -> Result<(), Fail> {
+    for (place, new, number) in [
+        (0, "axlab|2|match\n", 1),
+        (0, "", 1),
+        (1, "game|03|0|5|1|dilemma|yes\n", 2),
+        (1, "game|3|0|5|1|dilemma|no\n", 2),
+        (1, "game|3|0|6|1|dilemma|no\n", 4),
+        (2, "noise|1|1\n", 3),
+        (2, "noise|0|1\r\n", 3),
+        (
+            3,
+            "match|A|B|6|12.000000000000|17.000000000000|left|sure|4|3|2|2|1|1\n",
+            4,
+        ),
+        (
+            3,
+            "match|A|B|6|12.000000000000|17.000000000000|right|sure|4|4|2|2|1|1\n",
+            4,
+        ),
+        (
+            3,
+            "match|A|B|7|12.000000000000|17.000000000000|right|sure|4|3|2|2|1|1\n",
+            4,
+        ),
+        (
+            3,
+            "match|A|B|6|13.000000000000|17.000000000000|right|sure|4|3|2|2|1|1\n",
+            4,
+        ),
+        (
+            3,
+            "match|A|B|6|2.000000000000|7.000000000000|right|mixed\nmatch|A|B|6|2.000000000000|7.000000000000|right|mixed\n",
+            5,
+        ),
+        (3, "", 4),
+        (4, "", 5),
+        (4, "end", 5),
+        (4, "end\nend\n", 6),
+        (4, "end\nx", 6),
+    ] {
+        let text = changed(rt.alloc(), &SURE, place, new)?;
+        match read(rt.alloc(), &text) {
+            Ok(_) => return Err(Fail::from("read")),
+            Err(error) => assert_eq!(rt; error, ReportError::BadLine(number), "at {new}"),
+        }
+    }
+    Ok(())
+}

@@ -1,0 +1,41 @@
+//! Lines against texts that were worked out by hand.
+use crate::{line_of, push_line};
+use std::test::Fail;
+
+#[test]
+fn reads_lines(rt: HostRuntime) -> Result<(), Fail> {
+    let mut buffer = String::new(rt.alloc());
+    for (text, is_line) in [
+        ("axlab|1|match", true),
+        ("axlab|1|matches", false),
+        ("game|3|0|5|1|dilemma|yes", true),
+        ("game|3|0|5|1|dilemma|no", false),
+        ("game|3|0|1000001|1|dilemma|no", false),
+        ("noise|1|100", true),
+        ("noise|01|100", false),
+        (
+            "match|A|B|1|3.000000000000|3.000000000000|level|sure|1|1|1|0|0|0",
+            true,
+        ),
+        (
+            "match|A|B|2|3.000000000000|3.000000000000|level|sure|1|1|1|0|0|0",
+            false,
+        ),
+        (
+            "match|A|B|1|0.000000000001..0.500000000000|0.500000000001|right|mixed",
+            true,
+        ),
+        ("end", true),
+        ("end|", false),
+        ("", false),
+    ] {
+        let found = line_of(&mut buffer, text.as_bytes())?;
+        assert_eq!(rt; found.is_some(), is_line, "at {text}");
+        if let Some(line) = found {
+            let mut printed = String::new(rt.alloc());
+            push_line(&mut printed, &line)?;
+            assert_eq!(rt; printed.as_str(), text);
+        }
+    }
+    Ok(())
+}
