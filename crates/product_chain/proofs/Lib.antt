@@ -1,3 +1,4 @@
 pub mod Weighing
 pub mod Listing
 pub mod Forking
+pub mod Mixing

@@ -83,3 +83,13 @@ pub record IsRow (s : Side) (g : Grain) (n u : ℕ) (cells : List ℕ) : Type 0 
 pub record IsLayer (s : Side) (g : Grain) (n : ℕ) (layer : List (Vec ℕ Global)) : Type 0 where
   pub size : length layer ≡ own_rows s
   pub each : (u : ℕ) (d : Vec ℕ Global) → u < own_rows s → IsRow s g n u (slice_index_or layer u d).items
+
+-- rows of cells
+pub record IsTable (rows width : ℕ) (table : List (Vec ℕ Global)) : Type 0 where
+  pub size : length table ≡ rows
+  pub each : (k : ℕ) (d : Vec ℕ Global) → k < rows → length (slice_index_or table k d).items ≡ width
+
+-- the layer as far as its first rows
+pub record IsLayerTo (s : Side) (g : Grain) (n done : ℕ) (layer : List (Vec ℕ Global)) : Type 0 where
+  pub table : IsTable (own_rows s) (other_rows s) layer
+  pub each : (u : ℕ) (d : Vec ℕ Global) → u < done → IsRow s g n u (slice_index_or layer u d).items

@@ -1,3 +1,5 @@
 pub mod Expected
 pub mod Layer
 pub mod Course
+pub mod Scale
+pub mod Slim

@@ -3,7 +3,10 @@
 #![tactic(auto)]
 
 mod course;
+mod divide;
+mod scale;
 mod scores;
 mod side;
+mod slim;
 
 pub use scores::expect;
