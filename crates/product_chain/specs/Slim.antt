@@ -48,13 +48,12 @@ pub record AreMovedTo (s : Side) (g : Grain) (n : ℕ) (mine : Move) (forks : Li
   pub sized : (k : ℕ) (d : Vec ℕ Global) → k < length forks → length (slice_index_or rows k d).items ≡ other_rows s
   pub each : (k : ℕ) (d : Vec ℕ Global) (e : Fork) → k < done → IsMovedRow s g n mine (slice_index_or forks k e) (slice_index_or rows k d).items
 
--- the parts of both sides, where their moves lead, and a scale in which all sums of the turns fit
-pub record IsPlan (turns : ℕ) (plan : Plan) : Type 0 where
+-- the parts of both sides, and where their moves lead
+pub record IsPlan (plan : Plan) : Type 0 where
   pub own_parts : AreParts plan.side.now.own.now plan.side.now.own_noise.now plan.own_parts.items
   pub other_parts : AreParts plan.side.now.other.now plan.side.now.other_noise.now plan.other_parts.items
   pub after_c : IsCourse plan.side.now C plan.after_c
   pub after_d : IsCourse plan.side.now D plan.after_d
-  pub scale : IsScale plan.side.now.game.now turns (2 ^ 63 - 1) plan.scale
 
 -- a gain more fits beside each cell
 abbrev pub HasRoom : ℕ → List ℕ → Type 0
