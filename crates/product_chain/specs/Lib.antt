@@ -3,3 +3,4 @@ pub mod Layer
 pub mod Course
 pub mod Scale
 pub mod Slim
+pub mod Wide

@@ -8,5 +8,6 @@ mod scale;
 mod scores;
 mod side;
 mod slim;
+mod wide;
 
 pub use scores::expect;

@@ -1,0 +1,1 @@
+-- Cells of 128 bits.
