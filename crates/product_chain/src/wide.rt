@@ -77,3 +77,122 @@ fn fill_row(cells: &mut [u128], weights: Weights, if_c: &[u128], if_d: &[u128], 
         cells[v] = divided(weighed(weights, if_c[v], if_d[v]), by);
     }
 }
+
+/// What the turns have in common, for a scale.
+pub fn wide_plan_of<'a>(
+    alloc: Global,
+    side: &'a Side<'a>,
+    scale: u128,
+) -> Result<WidePlan<'a>, NoMemory>
+    requires valid { IsSide side.now }
+    ensures plan { IfOk result IsWidePlan }
+    ensures side { IfOk result (λ plan. plan.side.now ≡ side.now) }
+    ensures scale { IfOk result (λ plan. plan.scale ≡ scale) }
+{
+    Ok(WidePlan {
+        side,
+        scale,
+        by: Divisor::new(side.own_over * side.other_over),
+        own_weights: row_weights(alloc, side.own, side.own_noise)?,
+        other_weights: row_weights(alloc, side.other, side.other_noise)?,
+        after_c: course_of(alloc, side, Move::C)?,
+        after_d: course_of(alloc, side, Move::D)?,
+    })
+}
+
+// Cells that hold nothing.
+fn no_cells(alloc: Global, rows: usize, width: usize) -> Result<Vec<Vec<u128>>, NoMemory>
+    ensures { IfOk result (λ table. AreNone rows width table.items) }
+{
+    let mut table = Vec::with_capacity(alloc, rows)?;
+    for _row in 0..rows {
+        table.push(vec![in alloc; 0; width]?)?;
+    }
+    Ok(table)
+}
+
+// The cells of a move of the side, with `n` turns after it.
+fn fill_moved(
+    cells: &mut [Vec<u128>],
+    layer: &[Vec<u128>],
+    plan: &WidePlan,
+    course: &Course,
+    mine: Move,
+    n: u32,
+    turns: u32,
+)
+    requires valid { IsSide plan.now.side.now }
+    requires plan { IsWidePlan plan.now }
+    requires course { IsCourse plan.now.side.now mine course.now }
+    requires scale { IsScale plan.now.side.now.game.now turns (2 ^ 86) plan.now.scale }
+    requires n { n < turns }
+    requires layer { IsLayer plan.now.side.now (wide_grain plan.now.side.now plan.now.scale) n layer.now }
+    requires cells { IsTable (length course.now.forks.items) (other_rows plan.now.side.now) cells.old }
+    ensures { AreSumsTo plan.now.side.now (wide_grain plan.now.side.now plan.now.scale) n mine course.now.forks.items (length course.now.forks.items) cells.new }
+{
+    let gain_c = gain(plan.side.game, mine, Move::C, plan.scale);
+    let gain_d = gain(plan.side.game, mine, Move::D, plan.scale);
+    for k in 0..course.forks.len() {
+        let fork = course.forks[k];
+        fill_moved_row(
+            cells[k].as_mut_slice(),
+            &plan.other_weights,
+            &course.answers,
+            gain_c,
+            &layer[fork.c as usize],
+            gain_d,
+            &layer[fork.d as usize],
+        );
+    }
+}
+
+// The layer of one turn more.
+fn fill_layer(
+    layer: &mut [Vec<u128>],
+    if_c: &[Vec<u128>],
+    if_d: &[Vec<u128>],
+    plan: &WidePlan,
+    n: u32,
+    turns: u32,
+)
+    requires valid { IsSide plan.now.side.now }
+    requires plan { IsWidePlan plan.now }
+    requires scale { IsScale plan.now.side.now.game.now turns (2 ^ 86) plan.now.scale }
+    requires n { n < turns }
+    requires if_c { AreSumsTo plan.now.side.now (wide_grain plan.now.side.now plan.now.scale) n Move.C plan.now.after_c.forks.items (length plan.now.after_c.forks.items) if_c.now }
+    requires if_d { AreSumsTo plan.now.side.now (wide_grain plan.now.side.now plan.now.scale) n Move.D plan.now.after_d.forks.items (length plan.now.after_d.forks.items) if_d.now }
+    requires layer { IsTable (own_rows plan.now.side.now) (other_rows plan.now.side.now) layer.old }
+    ensures { IsLayer plan.now.side.now (wide_grain plan.now.side.now plan.now.scale) (n + 1) layer.new }
+{
+    for u in 0..layer.len() {
+        fill_row(
+            layer[u].as_mut_slice(),
+            plan.own_weights[u],
+            &if_c[plan.after_c.places[u] as usize],
+            &if_d[plan.after_d.places[u] as usize],
+            &plan.by,
+        );
+    }
+}
+
+/// The cell of the starts with all turns to come.
+pub fn run_wide(alloc: Global, plan: &WidePlan, turns: u32) -> Result<u128, NoMemory>
+    requires valid { IsSide plan.now.side.now }
+    requires plan { IsWidePlan plan.now }
+    requires scale { IsScale plan.now.side.now.game.now turns (2 ^ 86) plan.now.scale }
+    ensures { IfOk result (IsCell plan.now.side.now (wide_grain plan.now.side.now plan.now.scale) turns plan.now.side.now.own.now.start plan.now.side.now.other.now.start) }
+{
+    let rows = plan.own_weights.len();
+    let width = plan.other_weights.len();
+    let mut layer = no_cells(alloc, rows, width)?;
+    let mut if_c = no_cells(alloc, plan.after_c.forks.len(), width)?;
+    let mut if_d = no_cells(alloc, plan.after_d.forks.len(), width)?;
+    for n in 0..turns {
+        fill_moved(&mut if_c, &layer, plan, &plan.after_c, Move::C, n, turns);
+        fill_moved(&mut if_d, &layer, plan, &plan.after_d, Move::D, n, turns);
+        fill_layer(&mut layer, &if_c, &if_d, plan, n, turns);
+    }
+    let own = plan.side.own;
+    let other = plan.side.other;
+    Ok(layer[own.start as usize][other.start as usize])
+}
