@@ -1,12 +1,12 @@
 -- The forks of a move, row by row.
-use Rattle.std.proofs.Common.{ℕ, ◌+◌, ◌≡◌, ◌<◌, ◌≤◌, List, [], ◌∷◌, ◌++◌, length, length-append, get_or, arith, sym, subst, refl}
+use Rattle.std.proofs.Common.{ℕ, ◌+◌, ◌≡◌, ◌<◌, ◌≤◌, List, [], ◌∷◌, ◌++◌, length, length-append, get_or, arith, sym, subst, refl, ◌∙◌}
 use Rattle.std.proofs.Math.ListN.{get_or-append}
-use Rattle.std.proofs.lemmas.List.{get_or_push}
+use Rattle.std.proofs.lemmas.List.{get_or_push, get_or_default}
 use borrow.Author.Count.{below_more}
 use Rattle.history_model.specs.declared.moves.Move.{Move}
 use Rattle.history_model.specs.Automaton.{Automaton}
 use Rattle.product_chain.specs.declared.course.Fork.{Fork}
-use Rattle.product_chain.specs.Course.{IsFork, IsInside}
+use Rattle.product_chain.specs.Course.{AreForks, IsFork, IsInside}
 
 -- the forks of the first rows
 pub record AreForksTo (a : Automaton) (mine : Move) (rows : ℕ) (forks : List Fork) (places : List ℕ) : Type 0 where
@@ -48,3 +48,19 @@ module _ (a : Automaton) (mine : Move) (rows : ℕ) (forks : List Fork) (places 
         each = λ u d h. below_more (λ i. IsFork a i mine (get_or (forks ++ fork ∷ []) (get_or (places ++ length forks ∷ []) i 0) d)) rows
             (λ i g. rw (old_place (length forks) i g, kept (get_or places i 0) d (so_far.placed i g)) (so_far.each i d g)) (rw (new_place (length forks), last d) right) u h;
       }
+
+-- a fork that was read leads to rows
+pub fork_inside : (a : Automaton) (mine : Move) (forks : List Fork) (places : List ℕ) (k : ℕ) (fork : Fork) → AreForks a mine forks places → k < length forks →
+    fork ≡ get_or forks k fork → IsInside (length a.rows) fork
+fork_inside a mine forks places k fork right h read = subst (IsInside (length a.rows)) (sym read) (right.inside k fork h)
+
+-- a place that was read, and the fork there
+module _ (a : Automaton) (mine : Move) (forks : List Fork) (places : List ℕ) (u place : ℕ) (right : AreForks a mine forks places) (within : u < length a.rows) (read : place ≡ get_or places u place) where
+  place_is : get_or places u 0 ≡ place
+  place_is = sym (read ∙ get_or_default places u place 0 (let h : u < length places = omega (arith, right.size, within) in h))
+
+  pub place_within : place < length forks
+  place_within = subst (λ z. z < length forks) place_is (right.placed u within)
+
+  pub fork_there : (d : Fork) → IsFork a u mine (get_or forks place d)
+  fork_there d = subst (λ z. IsFork a u mine (get_or forks z d)) place_is (right.each u d within)

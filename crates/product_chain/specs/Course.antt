@@ -52,3 +52,7 @@ pub record AreAnswers (b : Automaton) (mine : Move) (answers : List Fork) : Type
 pub record IsCourse (s : Side) (mine : Move) (course : Course) : Type 0 where
   pub forks : AreForks s.own.now mine course.forks.items course.places.items
   pub answers : AreAnswers s.other.now mine course.answers.items
+
+-- all forks lead to rows
+abbrev pub AreInside : ℕ → List Fork → Type 0
+AreInside rows forks = (v : ℕ) (d : Fork) → v < length forks → IsInside rows (slice_index_or forks v d)

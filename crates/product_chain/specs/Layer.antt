@@ -1,5 +1,5 @@
 -- What a side expects from a pair of rows, and numbers that lie near it.
-use Rattle.std.specs.Prelude.{ℕ, ◌+◌, ◌*◌, ◌^◌, ◌≡◌, ◌≤◌, ◌<◌, List, length, slice_index, slice_index_or, Vec}
+use Rattle.std.specs.Prelude.{ℕ, ◌+◌, ◌*◌, ◌^◌, ◌≡◌, ◌≤◌, ◌<◌, List, length, slice_index, slice_index_or, replicate, Vec}
 use Rattle.std.specs.declared.alloc.Global.{Global}
 use Rattle.history_model.specs.declared.moves.Move.{Move}
 use Rattle.history_model.specs.declared.moves.Move.TheVariants.{C, D}
@@ -83,3 +83,18 @@ pub record IsRow (s : Side) (g : Grain) (n u : ℕ) (cells : List ℕ) : Type 0 
 pub record IsLayer (s : Side) (g : Grain) (n : ℕ) (layer : List (Vec ℕ Global)) : Type 0 where
   pub size : length layer ≡ own_rows s
   pub each : (u : ℕ) (d : Vec ℕ Global) → u < own_rows s → IsRow s g n u (slice_index_or layer u d).items
+
+-- rows of cells
+pub record IsTable (rows width : ℕ) (table : List (Vec ℕ Global)) : Type 0 where
+  pub size : length table ≡ rows
+  pub each : (k : ℕ) (d : Vec ℕ Global) → k < rows → length (slice_index_or table k d).items ≡ width
+
+-- the layer as far as its first rows
+pub record IsLayerTo (s : Side) (g : Grain) (n done : ℕ) (layer : List (Vec ℕ Global)) : Type 0 where
+  pub table : IsTable (own_rows s) (other_rows s) layer
+  pub each : (u : ℕ) (d : Vec ℕ Global) → u < done → IsRow s g n u (slice_index_or layer u d).items
+
+-- rows of cells that hold nothing
+pub record AreNone (rows width : ℕ) (table : List (Vec ℕ Global)) : Type 0 where
+  pub size : length table ≡ rows
+  pub each : (k : ℕ) (d : Vec ℕ Global) → k < rows → (slice_index_or table k d).items ≡ replicate width 0

@@ -1,3 +1,6 @@
 pub mod Expected
 pub mod Layer
 pub mod Course
+pub mod Scale
+pub mod Slim
+pub mod Wide

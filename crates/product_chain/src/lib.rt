@@ -3,7 +3,11 @@
 #![tactic(auto)]
 
 mod course;
+mod divide;
+mod scale;
 mod scores;
 mod side;
+mod slim;
+mod wide;
 
 pub use scores::expect;
