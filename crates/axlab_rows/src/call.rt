@@ -20,6 +20,8 @@ pub(crate) struct Ran {
     pub(crate) err: Vec<u8>,
     /// How often the library was read.
     pub(crate) calls: u32,
+    /// How often players were advanced, on both sides together.
+    pub(crate) advances: u64,
 }
 
 /// What stands around a call. The library holds the files `lab`, `machine.csv`, and `echo.csv`, which
@@ -60,6 +62,15 @@ fn held(alloc: Global, name: &str, bytes: &[u8]) -> Result<MemoryFile, Fail> {
     })
 }
 
+// How often the players of both sides were advanced so far.
+fn advances(bench: &Bench) -> u64 {
+    let mut sum: u64 = 0;
+    for player in bench.left.iter().chain(bench.right.iter()) {
+        sum = sum.saturating_add(player.advances());
+    }
+    sum
+}
+
 /// Runs the program on the words, which are cut at spaces, on a bench like main's.
 pub(crate) fn run(alloc: Global, line: &str, around: Around<'_>) -> Result<Ran, Fail> {
     let mut words = Vec::new(alloc);
@@ -89,11 +100,13 @@ pub(crate) fn run(alloc: Global, line: &str, around: Around<'_>) -> Result<Ran, 
     if !bench.fits() {
         return Err(Fail::from("the bench doesn't fit"));
     }
+    let before = advances(&bench);
     let status = axlab(alloc, &words, &mut library, &mut out, &mut err, &mut bench);
     Ok(Ran {
         status,
         out: out.bytes,
         err: err.bytes,
         calls: library.calls,
+        advances: advances(&bench).saturating_sub(before),
     })
 }

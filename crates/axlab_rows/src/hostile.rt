@@ -95,7 +95,7 @@ version = 1 -> version = 1; stable = 0 => played
 r = 3 -> r = 1_000_000 => played
 [noise] -> [spare] => played
 [noise] -> [[noise]] => 5 WrongType top noise
-n = 0 -> n = 5 => 23 NotBuilt
+n = 0 -> n = 5 => played
 name = "vector" -> # => 4 MissingKey entry 1 name
 name = "vector" -> name = 1 => 5 WrongType entry 1 name
 name = "vector" -> name = "" => 7 BadName entry 1
@@ -136,8 +136,8 @@ first = 0 -> first = 1 => 6 OutOfRange entry 4 table
 own = 1; other = 2; first = 0 -> own = 4; other = 4; first = 1 => 6 OutOfRange entry 4 first
 own = 1; other = 2; first = 0 -> own = 4; other = 2; first = 2 => 6 OutOfRange entry 4 opening
 own = 1; other = 2; first = 0; opening = [2, 0] -> own = 0; other = 0; first = 0; opening = [] => 6 OutOfRange entry 4 table
-opening = [2, 0] -> opening = [2, 1] => 23 NotBuilt
-table = [2, 0, 2, 0, 0, 0, 2, 2] -> table = [2, 0, 2, 0, 0, 0, 2, 1] => 23 NotBuilt
+opening = [2, 0] -> opening = [2, 1] => played
+table = [2, 0, 2, 0, 0, 0, 2, 2] -> table = [2, 0, 2, 0, 0, 0, 2, 1] => played
 plug = "Alternator" -> # => 4 MissingKey entry 5 plug
 plug = "Alternator" -> plug = 7 => 5 WrongType entry 5 plug
 plug = "Alternator" -> plug = "alternator" => 11 UnknownPlug entry 5
@@ -148,7 +148,7 @@ left = "table" -> # => 4 MissingKey match left
 left = "table" -> left = 4 => 5 WrongType match left
 left = "table" -> left = "Table" => 14 UnknownEntry match left
 left = "table" -> left = "" => 14 UnknownEntry match left
-left = "table" -> left = "vector" => 23 NotBuilt
+left = "table" -> left = "vector" => played
 left = "table" -> left = "filed" => played
 right = "plug" -> # => 4 MissingKey match right
 right = "plug" -> right = ["plug"] => 5 WrongType match right
@@ -156,6 +156,7 @@ right = "plug" -> right = "plugs" => 14 UnknownEntry match right
 right = "plug" -> right = "table" => played
 turns = 6 -> turns = 1_000_000_000_000 => 15 TooManyTurns
 turns = 6 -> turns = 1_000_001 => 15 TooManyTurns
+n = 0 -> n = 1 & turns = 6 -> turns = 10_001 => 15 TooManyTurns
 turns = 6 -> turns = 6; [tournament] => 23 NotBuilt
 turns = 6 -> turns = 6; [[rota]] => 23 NotBuilt
 version = 1 -> version = 1; board = 0 => 23 NotBuilt
@@ -183,7 +184,7 @@ version = 1 -> version = 1; rota = 0 & [match] -> [spare] => 23 NotBuilt
 file = "echo.csv" -> file = "machine.csv" & [match] -> [spare] => 10 BadRows entry 3 row 2
 file = "echo.csv" -> file = "echo" & n = 0 -> n = 1 => unread
 n = 0 -> n = 1 & [match] -> [spare] => 13 NoJob
-n = 0 -> n = 1 & turns = 6 -> turns = 1000001 => 23 NotBuilt
+n = 0 -> n = 1 & turns = 6 -> turns = 1000001 => 15 TooManyTurns
 "#;
 
 // A whole lab, and what is told.

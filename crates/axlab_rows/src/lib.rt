@@ -11,4 +11,8 @@ mod hostile;
 #[cfg(test)]
 mod machine_files;
 #[cfg(test)]
+mod mixed;
+#[cfg(test)]
+mod reading_back;
+#[cfg(test)]
 mod rows;

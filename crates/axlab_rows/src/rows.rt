@@ -29,7 +29,7 @@ const TRUSTING: &str =
     "version = 1\n[[entry]]\nname = \"coop\"\nkind = \"plug\"\nplug = \"Cooperator\"\n[[entry]]\nname = \"defector\"\nkind = \"plug\"\nplug = \"Defector\"\n[match]\nleft = \"coop\"\nright = \"defector\"\nturns = 1\n";
 
 // Plays CC, CD, DC and DD.
-const GRUDGE: &str =
+pub(crate) const GRUDGE: &str =
     "version = 1\n[[entry]]\nname = \"grudger\"\nkind = \"plug\"\nplug = \"Grudger\"\n[[entry]]\nname = \"alternator\"\nkind = \"plug\"\nplug = \"Alternator\"\n[match]\nleft = \"grudger\"\nright = \"alternator\"\nturns = 4\n";
 
 const GRUDGE_REPORT: &str =
