@@ -177,16 +177,6 @@ pub(crate) fn after(alloc: Global, state: State, next: Line) -> Result<State, Al
             names,
             body,
         } => after_body(game, noise, names, body, next),
-        State::Ended {
-            game,
-            noise,
-            names,
-            body,
-        } => Ok(State::Ended {
-            game,
-            noise,
-            names,
-            body,
-        }),
+        ended => Ok(ended),
     }
 }

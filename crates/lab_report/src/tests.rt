@@ -2,7 +2,7 @@
 ghost use Rattle.std.specs.Prelude.{IfOk};
 ghost use Rattle.lab_report.specs.Valid.{IsValid};
 
-use crate::{Body, Report, ReportError, match_report, read_report, write_report};
+use crate::{Body, Names, Noises, Report, ReportError, match_report, read_report, write_report};
 use fixed_span::Span;
 use history_model::{Game, Name, Noise, Tally};
 use match_play::MatchLine;
@@ -78,6 +78,18 @@ fn writes_matches(rt: HostRuntime) -> Result<(), Fail> {
     let bytes = write_report(rt.alloc(), &report)?;
     let text = changed(rt.alloc(), &SURE, 5, "")?;
     assert_eq!(rt; bytes.as_slice(), text.as_bytes());
+    Ok(())
+}
+
+#[test]
+fn lists_go_both_ways(rt: HostRuntime) -> Result<(), Fail> {
+    let name = Name::read(b"A").ok_or("no name")?;
+    let names = Names::from_vec(vec![in rt.alloc(); name]?);
+    assert_eq!(rt; names.as_slice()[0].byte(0), b'A');
+    assert_eq!(rt; names.into_vec().len(), 1);
+    let noises = Noises::from_vec(vec![in rt.alloc(); Noise { n: 1, e: 9 }]?);
+    assert_eq!(rt; noises.as_slice()[0].denominator(), 9);
+    assert_eq!(rt; noises.into_vec().len(), 1);
     Ok(())
 }
 
