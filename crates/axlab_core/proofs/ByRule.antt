@@ -1,9 +1,7 @@
 -- Entries choose as their automata do, so what their automata expect is what they expect.
 use Rattle.std.proofs.Common.{◌≡◌, ℕ, List, Option, Some, None, refl, ap}
-use Rattle.history_model.specs.Automaton.{Automaton}
-use Rattle.history_model.specs.Expectation.{Chooser, player, ChooseAlike, WeightsDecide}
+use Rattle.history_model.specs.Expectation.{player, ChooseAlike, WeightsDecide}
 use Rattle.history_model.specs.History.{History}
-use Rattle.history_model.specs.Noise.{FlipRate}
 use Rattle.history_model.specs.Game.{Payoffs}
 use Rattle.history_model.specs.declared.tally.Tally.{Tally}
 use Rattle.fixed_span.specs.Span.{Ends, Fraction, Holds, score_units}
@@ -16,7 +14,7 @@ use Rattle.player_core.specs.Entry.{entry_automaton, plug_automaton}
 use Rattle.player_core.specs.Rule.{own_rule, rule, FollowsRule}
 use Rattle.match_play.specs.declared.line.MatchLine.{MatchLine}
 use Rattle.product_chain.specs.Expected.{expected_score}
-use Rattle.round_robin.specs.Line.{IsExpected, IsLineOf, IsScored}
+use Rattle.round_robin.specs.Line.{IsLineOf, IsScored}
 use Rattle.lab_file.specs.Lab.{LabData}
 use Rattle.axlab_core.specs.Entrants.{Entrant, IsEntrant, rule_player, expects}
 use Rattle.axlab_core.specs.RightLine.{IsRightScore, IsRightBetween}

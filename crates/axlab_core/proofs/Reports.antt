@@ -1,5 +1,5 @@
 -- The report that is made of a right line is right.
-use Rattle.std.proofs.Common.{◌≡◌, ℕ, List, [], ◌∷◌, Bool, true, false, bytes_eq, Option, Some, None, Result, Ok, Err, IfOk, Vec, if◌then◌else◌, refl, inl, inr}
+use Rattle.std.proofs.Common.{◌≡◌, ℕ, List, bytes_eq, Option, Some, None, Result, Ok, Err, IfOk, Vec, if◌then◌else◌, refl, inl, inr}
 use Rattle.std.proofs.lemmas.Bool.{cases_Bool}
 use Rattle.std.proofs.lemmas.Slice.Eq.{bytes_eq-Decides}
 use Rattle.std.specs.declared.alloc.Global.{Global}
@@ -19,7 +19,7 @@ use Rattle.axlab_core.specs.RightLine.{IsRightScore, IsRightBetween}
 
 -- the places of two names in their report
 left_shown : (left right : List ℕ) → name_at (names_of_pair left right) 0 ≡ left
-left_shown left right = elim (cases_Bool (bytes_eq left right)) [ | inl same ↦ rw same refl | inr other ↦ rw other refl ]
+left_shown left right = elim (cases_Bool (bytes_eq left right)) [ inl same ↦ rw same refl | inr other ↦ rw other refl ]
 
 right_shown : (left right : List ℕ) → name_at (names_of_pair left right) (if bytes_eq left right then 0 else 1) ≡ right
 right_shown left right = elim (cases_Bool (bytes_eq left right)) [

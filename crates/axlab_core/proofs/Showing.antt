@@ -1,10 +1,10 @@
 -- What a match's line says can be shown.
-use Rattle.std.proofs.Common.{◌≡◌, ℕ, zero, suc, ◌+◌, ◌*◌, ◌^◌, ◌≤◌, ℤ, pos, ◌≤ℤ◌, List, [], ◌∷◌, length, IfSome, Option, Some, None, refl, ap, sym, ◌∙◌, arith}
+use Rattle.std.proofs.Common.{◌≡◌, ℕ, zero, suc, ◌+◌, ◌*◌, ◌≤◌, pos, ◌≤ℤ◌, List, length, Option, Some, None, refl, ap, sym, ◌∙◌, arith}
 use Rattle.std.proofs.lemmas.Int.{ints}
-use Rattle.std.proofs.Math.Nat.{mul-le-mul, mul-le-mul_left, mul-le-mul_right}
+use Rattle.std.proofs.Math.Nat.{mul-le-mul, mul-le-mul_right}
 use Rattle.history_model.specs.Automaton.{Automaton, next_row}
 use Rattle.history_model.specs.History.{turned_play}
-use Rattle.history_model.specs.Game.{Payoffs, IsGame, least, most}
+use Rattle.history_model.specs.Game.{Payoffs, IsGame, most}
 use Rattle.history_model.specs.Noise.{FlipRate}
 use Rattle.history_model.specs.Path.{path, match_path, sure_play}
 use Rattle.history_model.specs.Tally.{CountsArePaid, counts, total, left_points, right_points}
@@ -16,7 +16,7 @@ use Rattle.player_core.specs.Entry.{entry_automaton}
 use Rattle.match_play.specs.declared.line.MatchLine.{MatchLine}
 use Rattle.product_chain.specs.Expected.{IsPayable}
 use Rattle.round_robin.specs.Line.{IsLineOf, IsScored}
-use Rattle.lab_report.specs.Valid.{IsScore, IsCounted, IsShowable}
+use Rattle.lab_report.specs.Valid.{IsScore, IsShowable}
 use Rattle.axlab_core.specs.Entrants.{Entrant}
 
 -- a path has as many plays as turns

@@ -10,7 +10,6 @@ use Rattle.player_core.specs.Entry.{entry_automaton, plug_automaton}
 use Rattle.player_core.specs.Rule.{rule}
 use Rattle.product_chain.specs.Expected.{expected_score}
 use Rattle.strategy_file.specs.declared.draft.Draft.TheVariants.{Ready}
-use Rattle.lab_file.specs.declared.jobs.MatchJob.{MatchJob}
 use Rattle.lab_file.specs.Lab.{LabData, entry_at}
 
 -- an entry in a match: its sheet, and the noise of its moves

@@ -6,7 +6,7 @@ use Rattle.history_model.specs.declared.tally.Tally.{Tally}
 use Rattle.player_core.specs.State.{Lasting}
 use Rattle.fixed_span.specs.Span.{Holds, IsWithin, point, score_units}
 use Rattle.match_play.specs.declared.line.MatchLine.{MatchLine}
-use Rattle.product_chain.specs.Expected.{IsPayable, IsSureMatch, IsTight}
+use Rattle.product_chain.specs.Expected.{IsSureMatch, IsTight}
 use Rattle.round_robin.specs.Asked.{Turns, IsAsked}
 use Rattle.lab_file.specs.Lab.{LabData}
 use Rattle.axlab_core.specs.Entrants.{Entrant, IsEntrant, automaton_of_entrant, expects}

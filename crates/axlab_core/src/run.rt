@@ -40,7 +40,7 @@ use lookup_player::tables_follow_their_rule;
 use machine_player::machines_follow_their_rule;
 use match_play::MatchLine;
 use memory_player::vectors_follow_their_rule;
-use player_core::laws::{keeping_lasts, sure_is_tested};
+use player_core::laws::keeping_lasts;
 use player_core::{Bench, Player, PlugNote, Seats, Side};
 use round_robin::{Entrant, match_line};
 use std::alloc::Global;
@@ -118,7 +118,6 @@ fn job_line(
     ensures kept { KeepsBench (lasting_of (⟦<Side as Seats>⟧.seats bench.old.left)) (lasting_of (⟦<Side as Seats>⟧.seats bench.old.right)) (lasting_of (⟦<Side as Seats>⟧.seats bench.new.left)) (lasting_of (⟦<Side as Seats>⟧.seats bench.new.right)) }
 {
     notes_tell();
-    sure_is_tested();
     vectors_follow_their_rule();
     machines_follow_their_rule();
     tables_follow_their_rule();

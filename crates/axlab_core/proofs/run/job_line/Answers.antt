@@ -1,13 +1,23 @@
 use Rattle.std.proofs.Common.{ap}
 use Rattle.lab_file.specs.Lab.{LabData}
 use Rattle.axlab_core.proofs.ByRule.{right_between}
-use Rattle.axlab_core.proofs.Entries.{sure_pair}
+use Rattle.axlab_core.proofs.Entries.{entrant_known, sure_pair}
 use Rattle.axlab_core.proofs.Showing.{line_showable}
 use Rattle.axlab_core.proofs.run.job_line.Goals as goal
 
+pub match_line-requires-clause-left_known : goal.match_line-requires-clause-left_known
+match_line-requires-clause-left_known g c =
+    entrant_known c.notes_tell.ensures _ _ c.requires.fits c.args.notes.now.items c.args.lab.now c.requires.notes c.requires.noted c.args.job.now.left
+    (record { sheet = c.entrant-left.result.sheet.now; noise = c.entrant-left.result.noise }) c.requires.sound.left c.entrant-left.ensures.is
+
+pub match_line-requires-clause-right_known : goal.match_line-requires-clause-right_known
+match_line-requires-clause-right_known g c =
+    entrant_known c.notes_tell.ensures _ _ c.requires.fits c.args.notes.now.items c.args.lab.now c.requires.notes c.requires.noted c.args.job.now.right
+    (record { sheet = c.entrant-right.result.sheet.now; noise = c.entrant-right.result.noise }) c.requires.sound.right c.entrant-right.ensures.is
+
 pub match_line-requires-clause-sure : goal.match_line-requires-clause-sure
 match_line-requires-clause-sure g c =
-    sure_pair c.notes_tell.ensures c.sure_is_tested.ensures _ _ c.requires.fits c.args.notes.now.items c.args.lab.now c.requires.notes c.requires.noted
+    sure_pair c.notes_tell.ensures _ _ c.requires.fits c.args.notes.now.items c.args.lab.now c.requires.notes c.requires.noted
     c.args.job.now.left c.args.job.now.right
     (record { sheet = c.entrant-left.result.sheet.now; noise = c.entrant-left.result.noise }) (record { sheet = c.entrant-right.result.sheet.now; noise = c.entrant-right.result.noise })
     c.requires.sound.left c.requires.sound.right c.entrant-left.ensures.is c.entrant-right.ensures.is c.is_sure-sure.result c.is_sure-sure.ensures
