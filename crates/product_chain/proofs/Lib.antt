@@ -6,3 +6,5 @@ pub mod SlimCells
 pub mod Tables
 pub mod Reciprocal
 pub mod WideCells
+pub mod Ending
+pub mod Certain

@@ -4,10 +4,13 @@
 
 mod course;
 mod divide;
+mod estimate;
 mod scale;
 mod scores;
 mod side;
 mod slim;
+mod sure;
+mod units;
 mod wide;
 
 pub use scores::expect;
