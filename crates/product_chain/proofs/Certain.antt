@@ -1,19 +1,18 @@
 -- Sure matches, and single turns.
-use Rattle.std.proofs.Common.{ℕ, zero, suc, ◌+◌, ◌-◌, ◌*◌, ◌^◌, ◌≡◌, ◌≤◌, ◌<◌, ◌⊎◌, inl, inr, ◌==◌, if◌then◌else◌, refl, sym, ap, ◌∙◌, arith, subst}
+use Rattle.std.proofs.Common.{ℕ, zero, suc, ◌+◌, ◌-◌, ◌*◌, ◌≡◌, ◌<◌, ◌⊎◌, inl, inr, ◌==◌, if◌then◌else◌, refl, sym, ap, ◌∙◌, arith, subst}
 use Rattle.std.proofs.lemmas.Bool.Decides.{nat_tests}
 use Rattle.std.proofs.Math.Nat.{pow-succ', pow-zero}
 use Rattle.history_model.specs.declared.moves.Move.{Move}
 use Rattle.history_model.specs.declared.moves.Move.TheVariants.{C, D}
-use Rattle.history_model.specs.declared.moves.Play.{Play}
 use Rattle.history_model.specs.Automaton.{Automaton, weight_at, row_at, next_of}
 use Rattle.history_model.specs.Noise.{FlipRate}
 use Rattle.history_model.specs.Game.{pay}
-use Rattle.history_model.specs.Expectation.{shown, over_plays}
+use Rattle.history_model.specs.Expectation.{shown}
 use Rattle.history_model.specs.Path.{sure_move}
 use Rattle.product_chain.specs.declared.side.Side.{Side}
-use Rattle.product_chain.specs.Layer.{IsSide, IsNear, own_rows, other_rows, own_weight, other_weight, one_play, plays, expected, paid, moved}
+use Rattle.product_chain.specs.Layer.{IsSide, own_rows, other_rows, own_weight, other_weight, one_play, plays, expected, paid}
 use Rattle.product_chain.specs.Estimate.{sure_points, IsSureSide}
-use Rattle.product_chain.proofs.Steps.{expected_step, plays_step}
+use Rattle.product_chain.proofs.Steps.{expected_step}
 
 -- a turn along the path
 pub sure_step : (s : Side) (turns n u v total p u' v' all : ℕ) (mine theirs : Move) → n < turns → mine ≡ sure_move s.own.now u → theirs ≡ sure_move s.other.now v →
@@ -95,10 +94,10 @@ sure_expected s ok sure (suc n) u v hu hv =
     ∙ ap (λ x. sure_points s (suc n) u v * x) (sym (pow-succ' (one_play s) n))
 
 -- ---- one turn
-pub one_turn : (s : Side) (u v wc wd vc vd r t sucker p x : ℕ) → wc ≡ own_weight s u C → wd ≡ own_weight s u D → vc ≡ other_weight s v C → vd ≡ other_weight s v D →
+pub one_turn_is : (s : Side) (u v wc wd vc vd r t sucker p x : ℕ) → wc ≡ own_weight s u C → wd ≡ own_weight s u D → vc ≡ other_weight s v C → vd ≡ other_weight s v D →
     r ≡ pay s.game.now C C → sucker ≡ pay s.game.now C D → t ≡ pay s.game.now D C → p ≡ pay s.game.now D D →
     x ≡ wc * (vc * r + vd * sucker) + wd * (vc * t + vd * p) → expected s 1 u v ≡ x
-one_turn s u v wc wd vc vd r t sucker p x e0 e1 e2 e3 g0 g1 g2 g3 h =
+one_turn_is s u v wc wd vc vd r t sucker p x e0 e1 e2 e3 g0 g1 g2 g3 h =
     let none : plays s zero ≡ 1 = pow-zero (one_play s) in
     let sum : ℕ → ℕ = λ y. own_weight s u C * (other_weight s v C * (pay s.game.now C C * y + 0) + other_weight s v D * (pay s.game.now C D * y + 0))
     + own_weight s u D * (other_weight s v C * (pay s.game.now D C * y + 0) + other_weight s v D * (pay s.game.now D D * y + 0)) in

@@ -8,3 +8,4 @@ pub mod Reciprocal
 pub mod WideCells
 pub mod Ending
 pub mod Certain
+pub mod Estimating

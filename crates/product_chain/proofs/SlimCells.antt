@@ -1,14 +1,14 @@
 -- Cells of 64 bits.
-use Rattle.std.proofs.Common.{ℕ, ◌+◌, ◌-◌, ◌*◌, ◌^◌, ◌≡◌, ◌≤◌, ◌<◌, refl, sym, ap, ◌∙◌, arith, List, length, get_or, slice_index, subst, Vec, Global}
-use Rattle.std.proofs.Math.Nat.{mul-le-mul_right, mul-le-mul_left}
+use Rattle.std.proofs.Common.{ℕ, ◌+◌, ◌-◌, ◌*◌, ◌^◌, ◌≡◌, ◌≤◌, ◌<◌, sym, ap, ◌∙◌, arith, List, length, get_or, slice_index, subst, Vec, Global}
+use Rattle.std.proofs.Math.Nat.{mul-le-mul_right}
 use Rattle.history_model.specs.declared.moves.Move.{Move}
 use Rattle.history_model.specs.declared.moves.Move.TheVariants.{C, D}
 use Rattle.history_model.specs.Automaton.{row_at, next_of}
 use Rattle.history_model.specs.Game.{pay}
 use Rattle.product_chain.specs.declared.side.Side.{Side}
 use Rattle.product_chain.specs.declared.course.Fork.{Fork}
-use Rattle.product_chain.specs.Layer.{Grain, IsSide, IsNear, IsCell, IsRow, IsLayer, own_rows, other_rows, own_weight, other_weight, plays, expected, paid, moved}
-use Rattle.product_chain.specs.Course.{IsFork, IsAnswer, AreAnswers}
+use Rattle.product_chain.specs.Layer.{Grain, IsSide, IsCell, IsRow, own_rows, other_rows, own_weight, other_weight, plays, expected, paid, moved}
+use Rattle.product_chain.specs.Course.{IsFork, AreAnswers}
 use Rattle.product_chain.specs.Scale.{IsScale, top}
 use Rattle.product_chain.specs.Slim.{IsPart, AreParts, IsMix, IsMoved, IsMovedRow, AreMovedTo, AreDrawn, AreMixed, HasRoom, slim_grain}
 use Rattle.product_chain.proofs.Weighing.{shown_sum}

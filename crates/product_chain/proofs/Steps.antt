@@ -1,15 +1,14 @@
 -- One turn of what a side expects.
-use Rattle.std.proofs.Common.{ℕ, zero, suc, ◌+◌, ◌*◌, ◌^◌, ◌≡◌, ◌≤◌, ◌<◌, refl, sym, ap, ◌∙◌, arith, add-one, subst, max}
-use Rattle.std.proofs.Math.Nat.{mul-le-mul_right, mul-le-mul_left, pow-succ'}
+use Rattle.std.proofs.Common.{ℕ, suc, ◌+◌, ◌*◌, ◌≡◌, ◌≤◌, ◌<◌, sym, ap, ◌∙◌, arith, add-one}
+use Rattle.std.proofs.Math.Nat.{mul-le-mul_right, pow-succ'}
 use Rattle.history_model.specs.declared.moves.Move.{Move}
 use Rattle.history_model.specs.declared.moves.Move.TheVariants.{C, D}
 use Rattle.history_model.specs.Automaton.{row_at, next_of}
 use Rattle.history_model.specs.Game.{pay}
 use Rattle.product_chain.specs.declared.side.Side.{Side}
 use Rattle.product_chain.specs.declared.course.Fork.{Fork}
-use Rattle.product_chain.specs.Layer.{Grain, IsSide, IsNear, IsCell, own_rows, other_rows, own_weight, other_weight, one_play, plays, expected, paid, moved}
+use Rattle.product_chain.specs.Layer.{IsNear, own_weight, other_weight, one_play, plays, expected, paid, moved}
 use Rattle.product_chain.specs.Course.{IsFork}
-use Rattle.product_chain.proofs.Weighing.{shown_sum}
 
 by_own_move : (w0 w1 z0 z1 a b c d : ℕ) → w0 * z0 * a + w0 * z1 * b + w1 * z0 * c + w1 * z1 * d ≡ w0 * (z0 * a + z1 * b) + w1 * (z0 * c + z1 * d)
 by_own_move w0 w1 z0 z1 a b c d = omega arith

@@ -1,5 +1,5 @@
 -- Cells of 128 bits.
-use Rattle.std.proofs.Common.{ℕ, ◌+◌, ◌-◌, ◌*◌, ◌^◌, ◌≡◌, ◌≤◌, ◌<◌, refl, sym, ap, ◌∙◌, arith, List, length, get_or, slice_index, subst, Vec, Global}
+use Rattle.std.proofs.Common.{ℕ, ◌+◌, ◌*◌, ◌^◌, ◌≡◌, ◌≤◌, ◌<◌, refl, sym, ap, ◌∙◌, arith, List, length, get_or, slice_index, subst, Vec, Global}
 use Rattle.std.proofs.Math.Nat.{mul-le-mul_right, mul-le-mul_left, mul-le-mul, le_of_mul-le-mul_right}
 use Rattle.history_model.specs.declared.moves.Move.{Move}
 use Rattle.history_model.specs.declared.moves.Move.TheVariants.{C, D}
@@ -8,8 +8,8 @@ use Rattle.history_model.specs.Game.{pay}
 use Rattle.product_chain.specs.declared.side.Side.{Side}
 use Rattle.product_chain.specs.declared.course.Fork.{Fork}
 use Rattle.product_chain.specs.declared.course.Weights.{Weights}
-use Rattle.product_chain.specs.Layer.{Grain, IsSide, IsNear, IsCell, IsRow, IsLayer, own_rows, other_rows, own_weight, other_weight, one_play, plays, expected, paid, moved}
-use Rattle.product_chain.specs.Course.{IsFork, IsAnswer, AreAnswers, AreWeights, AreRowWeights}
+use Rattle.product_chain.specs.Layer.{Grain, IsSide, IsNear, IsCell, IsRow, other_rows, own_weight, other_weight, one_play, plays, expected, paid, moved}
+use Rattle.product_chain.specs.Course.{IsFork, AreAnswers, AreWeights, AreRowWeights}
 use Rattle.product_chain.specs.Scale.{IsScale, top}
 use Rattle.product_chain.specs.Wide.{IsQuotient, IsSum, IsSumRow, AreSumsTo, AreSummed, AreDivided, HasWideRoom, AreWithin, AreFew, wide_grain}
 use Rattle.product_chain.proofs.Steps.{expected_by_forks, plays_step, paid_near, gain_fits, near_as}

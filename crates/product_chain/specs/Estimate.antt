@@ -1,14 +1,15 @@
 -- Estimates of what a side expects, and the spans that they give.
-use Rattle.std.specs.Prelude.{ℕ, ◌+◌, ◌*◌, ◌^◌, ◌≡◌, ◌≤◌, ◌<◌, ℤ, pos, ◌≤ℤ◌}
+use Rattle.std.specs.Prelude.{ℕ, ◌+◌, ◌*◌, ◌^◌, ◌≡◌, ◌≤◌, ◌<◌, pos, ◌≤ℤ◌}
 use Rattle.history_model.specs.Automaton.{Automaton, IsSure}
-use Rattle.history_model.specs.Game.{Payoffs, most}
+use Rattle.history_model.specs.Expectation.{player}
+use Rattle.history_model.specs.Game.{most}
 use Rattle.history_model.specs.History.{points}
 use Rattle.history_model.specs.Noise.{FlipRate}
 use Rattle.history_model.specs.Path.{path}
-use Rattle.fixed_span.specs.Span.{Ends, Holds, IsWithin, score_units}
+use Rattle.fixed_span.specs.Span.{Ends, Fraction, Holds, IsWithin, score_units}
 use Rattle.product_chain.specs.declared.side.Side.{Side}
 use Rattle.product_chain.specs.declared.estimate.Estimate.{Estimate}
-use Rattle.product_chain.specs.Expected.{finest, IsPayable, IsSharp, IsSureMatch, IsTight}
+use Rattle.product_chain.specs.Expected.{expected_score, finest, IsPayable, IsSharp, IsSureMatch, IsTight}
 use Rattle.product_chain.specs.Layer.{IsNear, expected, plays}
 
 -- the points of the path of sure moves
@@ -26,6 +27,13 @@ IsSureSide s = IsSureMatch s.own.now s.own_noise.now s.other.now s.other_noise.n
 -- what the side expects of n turns from the starts
 abbrev pub from_starts : Side → ℕ → ℕ
 from_starts s n = expected s n s.own.now.start s.other.now.start
+
+-- what the side expects of n turns, by the pairs of rows and by all histories
+abbrev pub from_rows : Side → ℕ → Fraction
+from_rows s n = record { numerator = pos (from_starts s n); denominator = plays s n }
+
+abbrev pub side_fraction : Side → ℕ → Fraction
+side_fraction s n = expected_score (player s.own.now) s.own_noise.now (player s.other.now) s.other_noise.now s.game.now 0 n
 
 -- what the side expects of n turns lies between value and value + err, in parts of which `scale` make a point
 pub record IsEstimate (s : Side) (n : ℕ) (x : Estimate) : Type 0 where
@@ -55,8 +63,8 @@ pub record IsEnds (x err scale floor roof : ℕ) (span : Ends) : Type 0 where
 
 -- the span of what a side expects of n turns
 pub record IsScore (s : Side) (n : ℕ) (span : Ends) : Type 0 where
-  pub holds : Holds score_units span (record { numerator = pos (from_starts s n); denominator = plays s n })
+  pub holds : Holds score_units span (from_rows s n)
   pub width : IsWithin n span
   pub narrow : IsTight s.game.now n span
   pub payable : IsPayable s.game.now n span
-  pub one_turn : n ≡ 1 → IsSharp score_units span (record { numerator = pos (from_starts s n); denominator = plays s n })
+  pub one_turn : n ≡ 1 → IsSharp score_units span (from_rows s n)

@@ -5,11 +5,12 @@ use Rattle.history_model.specs.declared.moves.Move.{Move}
 use Rattle.history_model.specs.declared.moves.Move.TheVariants.{C, D}
 use Rattle.history_model.specs.Automaton.{IsAutomaton, weight_at, row_at, next_of}
 use Rattle.history_model.specs.Noise.{IsFlipRate}
-use Rattle.history_model.specs.Game.{pay}
+use Rattle.history_model.specs.Game.{pay, IsGame}
 use Rattle.history_model.specs.Expectation.{shown, expected_by_rows}
 use Rattle.product_chain.specs.declared.side.Side.{Side}
+use Rattle.product_chain.specs.Scale.{top}
 
--- the automata and the chances of flips are valid, and the denominators of the moves are right
+-- the automata, the chances of flips and the payoffs are valid, and what is computed from them is right
 pub record IsSide (s : Side) : Type 0 where
   pub own : IsAutomaton s.own.now
   pub own_rate : IsFlipRate s.own_noise.now
@@ -21,6 +22,8 @@ pub record IsSide (s : Side) : Type 0 where
   pub other_over : s.other_over ≡ s.other.now.den * s.other_noise.now.e
   pub other_some : 1 ≤ s.other_over
   pub other_few : s.other_over ≤ 1000000
+  pub game : IsGame s.game.now
+  pub top : s.top ≡ top s.game.now
 
 abbrev pub own_rows : Side → ℕ
 own_rows s = length s.own.now.rows

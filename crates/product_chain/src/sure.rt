@@ -55,8 +55,8 @@ fn next_row(grid: &Grid, row: u32, mine: Move, theirs: Move) -> u32
     grid.row(row).next_after(mine, theirs)
 }
 
-// What the side is paid for a play.
-fn points_of(game: &Game, mine: Move, theirs: Move) -> u128
+/// What the side is paid for a play.
+pub fn points_of(game: &Game, mine: Move, theirs: Move) -> u128
     ensures value { result ≡ pay game.now mine theirs }
     ensures few { result ≤ 1000000 }
 {

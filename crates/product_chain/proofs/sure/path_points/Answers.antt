@@ -1,4 +1,4 @@
-use Rattle.std.proofs.Common.{arith, ◌+◌, ◌*◌, ◌≡◌}
+use Rattle.std.proofs.Common.{arith}
 use Rattle.product_chain.proofs.Certain.{sure_step}
 use Rattle.product_chain.proofs.sure.path_points.Goals as goal
 
