@@ -10,6 +10,8 @@ mod scores;
 mod side;
 mod slim;
 mod sure;
+#[cfg(test)]
+mod tests;
 mod units;
 mod wide;
 
