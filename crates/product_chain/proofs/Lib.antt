@@ -6,3 +6,6 @@ pub mod SlimCells
 pub mod Tables
 pub mod Reciprocal
 pub mod WideCells
+pub mod Ending
+pub mod Certain
+pub mod Estimating

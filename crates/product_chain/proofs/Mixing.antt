@@ -1,6 +1,6 @@
 -- Means of two numbers by parts of a whole.
 use Rattle.std.proofs.Common.{ℕ, ◌+◌, ◌-◌, ◌*◌, ◌^◌, ◌≡◌, ◌≤◌, ◌<◌, arith, ap}
-use Rattle.std.proofs.Math.Nat.{mul-le-mul_right, mul-le-mul_left, le_of_mul-le-mul_right, le_of_mul-le-mul_left, lt_of_mul-lt-mul_right}
+use Rattle.std.proofs.Math.Nat.{mul-le-mul_right, mul-le-mul_left, lt_of_mul-lt-mul_right}
 use Rattle.product_chain.specs.Layer.{IsNear}
 use Rattle.product_chain.specs.Slim.{IsPart, IsMix}
 

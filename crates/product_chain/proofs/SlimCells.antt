@@ -1,19 +1,19 @@
 -- Cells of 64 bits.
-use Rattle.std.proofs.Common.{ℕ, ◌+◌, ◌-◌, ◌*◌, ◌^◌, ◌≡◌, ◌≤◌, ◌<◌, refl, sym, ap, ◌∙◌, arith, List, length, get_or, slice_index, subst, Vec, Global}
-use Rattle.std.proofs.Math.Nat.{mul-le-mul_right, mul-le-mul_left}
+use Rattle.std.proofs.Common.{ℕ, ◌+◌, ◌-◌, ◌*◌, ◌^◌, ◌≡◌, ◌≤◌, ◌<◌, sym, ap, ◌∙◌, arith, List, length, get_or, slice_index, subst, Vec, Global}
+use Rattle.std.proofs.Math.Nat.{mul-le-mul_right}
 use Rattle.history_model.specs.declared.moves.Move.{Move}
 use Rattle.history_model.specs.declared.moves.Move.TheVariants.{C, D}
 use Rattle.history_model.specs.Automaton.{row_at, next_of}
 use Rattle.history_model.specs.Game.{pay}
 use Rattle.product_chain.specs.declared.side.Side.{Side}
 use Rattle.product_chain.specs.declared.course.Fork.{Fork}
-use Rattle.product_chain.specs.Layer.{Grain, IsSide, IsNear, IsCell, IsRow, IsLayer, own_rows, other_rows, own_weight, other_weight, plays, points, paid, moved}
-use Rattle.product_chain.specs.Course.{IsFork, IsAnswer, AreAnswers}
+use Rattle.product_chain.specs.Layer.{Grain, IsSide, IsCell, IsRow, own_rows, other_rows, own_weight, other_weight, plays, expected, paid, moved}
+use Rattle.product_chain.specs.Course.{IsFork, AreAnswers}
 use Rattle.product_chain.specs.Scale.{IsScale, top}
 use Rattle.product_chain.specs.Slim.{IsPart, AreParts, IsMix, IsMoved, IsMovedRow, AreMovedTo, AreDrawn, AreMixed, HasRoom, slim_grain}
 use Rattle.product_chain.proofs.Weighing.{shown_sum}
 use Rattle.product_chain.proofs.Mixing.{mix_small, mix_near}
-use Rattle.product_chain.proofs.Steps.{points_by_forks, plays_step, paid_near, gain_fits, near_as}
+use Rattle.product_chain.proofs.Steps.{expected_by_forks, plays_step, paid_near, gain_fits, near_as}
 
 module _ (s : Side) (ok : IsSide s) (scale n turns : ℕ) (later : n < turns) (scaled : IsScale s.game.now turns (2 ^ 63 - 1) scale) where
   abbrev unit : ℕ
@@ -64,8 +64,8 @@ module _ (s : Side) (ok : IsSide s) (scale n turns : ℕ) (later : n < turns) (s
       let near = mix_near scale (2 * n + 1) (4 * n + 2) (own_weight s u C) (own_weight s u D) (s.own.now.den * s.own_noise.now.e) part xc xd x
       (moved s n C fork_c.c fork_c.d v) (moved s n D fork_d.c fork_d.d v) y sum weighed mix (omega (arith, c_less)) (omega (arith, d_less)) moved_c.near moved_d.near in
       record {
-        near = near_as scale (2 * n + 1 + 1) (4 * n + 2 + 2) (2 * (n + 1)) (4 * (n + 1)) x _ (points s (n + 1) u v) _ (plays s (n + 1)) (omega arith) (omega arith)
-            (points_by_forks s n u v fork_c fork_d fc fd) (sym (plays_step s n)) near;
+        near = near_as scale (2 * n + 1 + 1) (4 * n + 2 + 2) (2 * (n + 1)) (4 * (n + 1)) x _ (expected s (n + 1) u v) _ (plays s (n + 1)) (omega arith) (omega arith)
+            (expected_by_forks s n u v fork_c fork_d fc fd) (sym (plays_step s n)) near;
         small = mix_small part xc xd x ((n + 1) * unit) weighed.less mix moved_c.small moved_d.small;
       }
 

@@ -1,5 +1,5 @@
 -- Cells of 128 bits.
-use Rattle.std.proofs.Common.{ℕ, ◌+◌, ◌-◌, ◌*◌, ◌^◌, ◌≡◌, ◌≤◌, ◌<◌, refl, sym, ap, ◌∙◌, arith, List, length, get_or, slice_index, subst, Vec, Global}
+use Rattle.std.proofs.Common.{ℕ, ◌+◌, ◌*◌, ◌^◌, ◌≡◌, ◌≤◌, ◌<◌, refl, sym, ap, ◌∙◌, arith, List, length, get_or, slice_index, subst, Vec, Global}
 use Rattle.std.proofs.Math.Nat.{mul-le-mul_right, mul-le-mul_left, mul-le-mul, le_of_mul-le-mul_right}
 use Rattle.history_model.specs.declared.moves.Move.{Move}
 use Rattle.history_model.specs.declared.moves.Move.TheVariants.{C, D}
@@ -8,11 +8,11 @@ use Rattle.history_model.specs.Game.{pay}
 use Rattle.product_chain.specs.declared.side.Side.{Side}
 use Rattle.product_chain.specs.declared.course.Fork.{Fork}
 use Rattle.product_chain.specs.declared.course.Weights.{Weights}
-use Rattle.product_chain.specs.Layer.{Grain, IsSide, IsNear, IsCell, IsRow, IsLayer, own_rows, other_rows, own_weight, other_weight, one_play, plays, points, paid, moved}
-use Rattle.product_chain.specs.Course.{IsFork, IsAnswer, AreAnswers, AreWeights, AreRowWeights}
+use Rattle.product_chain.specs.Layer.{Grain, IsSide, IsNear, IsCell, IsRow, other_rows, own_weight, other_weight, one_play, plays, expected, paid, moved}
+use Rattle.product_chain.specs.Course.{IsFork, AreAnswers, AreWeights, AreRowWeights}
 use Rattle.product_chain.specs.Scale.{IsScale, top}
 use Rattle.product_chain.specs.Wide.{IsQuotient, IsSum, IsSumRow, AreSumsTo, AreSummed, AreDivided, HasWideRoom, AreWithin, AreFew, wide_grain}
-use Rattle.product_chain.proofs.Steps.{points_by_forks, plays_step, paid_near, gain_fits, near_as}
+use Rattle.product_chain.proofs.Steps.{expected_by_forks, plays_step, paid_near, gain_fits, near_as}
 
 -- a sum of near numbers by weights
 sum_near : (scale below above c d xc xd ec ed y : ℕ) → IsNear scale 0 above xc ec y → IsNear scale 0 above xd ed y →
@@ -85,13 +85,13 @@ module _ (s : Side) (ok : IsSide s) (scale n turns : ℕ) (later : n < turns) (s
       let sum : w.c + w.d ≡ s.own_over = weighed.sum ∙ sym ok.own_over in
       let whole : s.own_over * s.other_over ≡ one_play s = ap (λ z. z * s.other_over) ok.own_over ∙ ap (λ z. s.own.now.den * s.own_noise.now.e * z) ok.other_over in
       let above : 4 * n * s.other_over * (w.c + w.d) ≡ 4 * n * one_play s = ap (λ z. 4 * n * s.other_over * z) sum ∙ order (4 * n) s.other_over s.own_over ∙ ap (λ z. 4 * n * z) whole in
-      let named : w.c * moved s n C fork_c.c fork_c.d v + w.d * moved s n D fork_d.c fork_d.d v ≡ points s (n + 1) u v =
+      let named : w.c * moved s n C fork_c.c fork_c.d v + w.d * moved s n D fork_d.c fork_d.d v ≡ expected s (n + 1) u v =
       ap (λ z. z * moved s n C fork_c.c fork_c.d v + w.d * moved s n D fork_d.c fork_d.d v) weighed.c
       ∙ ap (λ z. own_weight s u C * moved s n C fork_c.c fork_c.d v + z * moved s n D fork_d.c fork_d.d v) weighed.d
-      ∙ points_by_forks s n u v fork_c fork_d fc fd in
+      ∙ expected_by_forks s n u v fork_c fork_d fc fd in
       let near0 = sum_near scale 0 (4 * n * s.other_over) w.c w.d xc xd (moved s n C fork_c.c fork_c.d v) (moved s n D fork_d.c fork_d.d v) (plays s n) sum_c.near sum_d.near in
-      let near1 = near_as scale 0 _ 0 (4 * n * one_play s) (w.c * xc + w.d * xd) _ (points s (n + 1) u v) (plays s n) _ refl above named refl near0 in
-      let near2 = quotient_near scale (4 * n) (w.c * xc + w.d * xd) (points s (n + 1) u v) (plays s n) (one_play s) x near1 quotient in
+      let near1 = near_as scale 0 _ 0 (4 * n * one_play s) (w.c * xc + w.d * xd) _ (expected s (n + 1) u v) (plays s n) _ refl above named refl near0 in
+      let near2 = quotient_near scale (4 * n) (w.c * xc + w.d * xd) (expected s (n + 1) u v) (plays s n) (one_play s) x near1 quotient in
       let small0 : w.c * xc + w.d * xd ≤ s.own_over * (s.other_over * ((n + 1) * unit)) = sum_small w.c w.d s.own_over xc xd (s.other_over * ((n + 1) * unit)) sum sum_c.small sum_d.small in
       let small1 : w.c * xc + w.d * xd ≤ one_play s * ((n + 1) * unit) = omega (arith, small0, ap (λ z. z * ((n + 1) * unit)) whole) in
       record {

@@ -5,11 +5,12 @@ use Rattle.history_model.specs.declared.moves.Move.{Move}
 use Rattle.history_model.specs.declared.moves.Move.TheVariants.{C, D}
 use Rattle.history_model.specs.Automaton.{IsAutomaton, weight_at, row_at, next_of}
 use Rattle.history_model.specs.Noise.{IsFlipRate}
-use Rattle.history_model.specs.Game.{pay}
+use Rattle.history_model.specs.Game.{pay, IsGame}
 use Rattle.history_model.specs.Expectation.{shown, expected_by_rows}
 use Rattle.product_chain.specs.declared.side.Side.{Side}
+use Rattle.product_chain.specs.Scale.{top}
 
--- the automata and the chances of flips are valid, and the denominators of the moves are right
+-- the automata, the chances of flips and the payoffs are valid, and what is computed from them is right
 pub record IsSide (s : Side) : Type 0 where
   pub own : IsAutomaton s.own.now
   pub own_rate : IsFlipRate s.own_noise.now
@@ -21,6 +22,8 @@ pub record IsSide (s : Side) : Type 0 where
   pub other_over : s.other_over ≡ s.other.now.den * s.other_noise.now.e
   pub other_some : 1 ≤ s.other_over
   pub other_few : s.other_over ≤ 1000000
+  pub game : IsGame s.game.now
+  pub top : s.top ≡ top s.game.now
 
 abbrev pub own_rows : Side → ℕ
 own_rows s = length s.own.now.rows
@@ -37,8 +40,8 @@ abbrev pub plays : Side → ℕ → ℕ
 plays s n = one_play s ^ n
 
 -- what the side expects of n turns from a pair of rows, over the denominator of n plays
-abbrev pub points : Side → ℕ → ℕ → ℕ → ℕ
-points s n u v = expected_by_rows s.own.now s.own_noise.now s.other.now s.other_noise.now s.game.now n u v
+abbrev pub expected : Side → ℕ → ℕ → ℕ → ℕ
+expected s n u v = expected_by_rows s.own.now s.own_noise.now s.other.now s.other_noise.now s.game.now n u v
 
 -- the weights of the moves that the side shows at row u, and the other at row v
 abbrev pub own_weight : Side → ℕ → Move → ℕ
@@ -49,7 +52,7 @@ other_weight s v move = shown s.other_noise.now s.other.now.den (weight_at s.oth
 
 -- what a play pays the side, with n turns from the next rows
 abbrev pub paid : Side → ℕ → Move → Move → ℕ → ℕ → ℕ
-paid s n mine theirs u v = pay s.game.now mine theirs * plays s n + points s n u v
+paid s n mine theirs u v = pay s.game.now mine theirs * plays s n + expected s n u v
 
 -- what a move of the side brings, with n turns after it: the other is at row v, and the side's next row is i where the other cooperates and j where it defects
 abbrev pub moved : Side → ℕ → Move → ℕ → ℕ → ℕ → ℕ
@@ -71,7 +74,7 @@ pub record Grain : Type 0 where
 
 -- a cell of the chain: the side is at row u and the other at row v, and n turns are to come
 pub record IsCell (s : Side) (g : Grain) (n u v x : ℕ) : Type 0 where
-  pub near : IsNear g.scale (g.below * n) (g.above * n) x (points s n u v) (plays s n)
+  pub near : IsNear g.scale (g.below * n) (g.above * n) x (expected s n u v) (plays s n)
   pub small : x ≤ n * g.unit
 
 -- the cells of the row u

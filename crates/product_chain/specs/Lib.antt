@@ -4,3 +4,4 @@ pub mod Course
 pub mod Scale
 pub mod Slim
 pub mod Wide
+pub mod Estimate

@@ -1,5 +1,5 @@
 -- Cells of 64 bits: means by parts of a whole, of which there are 2^63.
-use Rattle.std.specs.Prelude.{ℕ, ◌+◌, ◌-◌, ◌*◌, ◌^◌, ◌≡◌, ◌≤◌, ◌<◌, List, length, slice_index, slice_index_or, Vec}
+use Rattle.std.specs.Prelude.{ℕ, ◌+◌, ◌*◌, ◌^◌, ◌≡◌, ◌≤◌, ◌<◌, List, length, slice_index, slice_index_or, Vec}
 use Rattle.std.specs.declared.alloc.Global.{Global}
 use Rattle.history_model.specs.declared.moves.Move.{Move}
 use Rattle.history_model.specs.declared.moves.Move.TheVariants.{C, D}
@@ -11,7 +11,7 @@ use Rattle.product_chain.specs.declared.course.Fork.{Fork}
 use Rattle.product_chain.specs.declared.slim.Plan.{Plan}
 use Rattle.product_chain.specs.Layer.{Grain, IsNear, moved, plays, other_rows}
 use Rattle.product_chain.specs.Course.{IsCourse}
-use Rattle.product_chain.specs.Scale.{IsScale, top}
+use Rattle.product_chain.specs.Scale.{top}
 
 -- the parts that w / q comes to, rounded down, and always less than a whole
 pub record IsPart (w q part : ℕ) : Type 0 where

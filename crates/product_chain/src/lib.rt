@@ -4,10 +4,15 @@
 
 mod course;
 mod divide;
+mod estimate;
 mod scale;
 mod scores;
 mod side;
 mod slim;
+mod sure;
+#[cfg(test)]
+mod tests;
+mod units;
 mod wide;
 
 pub use scores::expect;

@@ -5,11 +5,12 @@ ghost use Rattle.product_chain.specs.Scale.{top, IsScale};
 
 use history_model::{Game, Move};
 
-// The most that a turn pays, or 1.
-fn top_of(game: &Game) -> u128
+/// The most that a turn pays, or 1.
+pub fn top_of(game: &Game) -> u128
     ensures value { result ≡ top game.now }
     ensures some { 1 ≤ result }
     ensures few { result ≤ 1000000 }
+    ensures game { IsGame game.now }
 {
     let (r, s, t, p) = game.unsigned();
     r.max(s).max(t).max(p).max(1) as u128

@@ -4,9 +4,11 @@ ghost use Rattle.history_model.specs.Automaton.{IsAutomaton};
 ghost use Rattle.history_model.specs.Noise.{IsFlipRate};
 ghost use Rattle.product_chain.specs.Layer.{IsSide};
 
+use crate::scale::top_of;
 use history_model::{Game, Grid, Noise};
 
-/// A match as one of its players sees it, with the denominators of the moves that each side shows.
+/// A match as one of its players sees it, with the denominators of the moves that each side shows, and
+/// the most that a turn pays, or 1.
 #[derive(Clone, Copy)]
 pub struct Side<'a> {
     pub own: &'a Grid,
@@ -16,6 +18,7 @@ pub struct Side<'a> {
     pub other_noise: &'a Noise,
     pub other_over: u64,
     pub game: &'a Game,
+    pub top: u128,
 }
 
 /// The match of `own` against `other`, as `own` sees it.
@@ -41,6 +44,7 @@ pub fn seen<'a>(
         other_noise,
         other_over: over(other, other_noise),
         game,
+        top: top_of(game),
     }
 }
 

@@ -28,7 +28,7 @@ pub struct WidePlan<'a> {
 
 // The sum of `c` and `d` by the weights.
 #[inline(always)]
-fn weighed(weights: Weights, c: u128, d: u128) -> u128
+pub fn weighed(weights: Weights, c: u128, d: u128) -> u128
     requires few { weights.c + weights.d ≤ 1000000 }
     requires c { c ≤ 2 ^ 106 }
     requires d { d ≤ 2 ^ 106 }

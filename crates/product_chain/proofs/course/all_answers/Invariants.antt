@@ -1,6 +1,6 @@
 use Rattle.std.proofs.Common.{◌≡◌, ℕ, ◌<◌, length, get_or}
 use Rattle.product_chain.specs.declared.course.Fork.{Fork}
-use Rattle.product_chain.specs.Course.{AreWeights, IsAnswer}
+use Rattle.product_chain.specs.Course.{IsAnswer}
 use Rattle.product_chain.proofs.course.all_answers.Given as goal
 
 abbrev pub invariant-loop-row : goal.invariant-loop-row

@@ -1,6 +1,5 @@
-use Rattle.std.proofs.Common.{arith, rules, ◌+◌, ◌≡◌, ◌<◌, List, [], ◌∷◌, ◌++◌, length, subst, sym, ap, ◌∙◌}
-use Rattle.product_chain.specs.declared.course.Fork.{Fork}
-use Rattle.product_chain.proofs.Forking.{AreForksTo, known_fork, new_fork}
+use Rattle.std.proofs.Common.{rules, ◌≡◌, ◌<◌, [], ◌∷◌, ◌++◌, length}
+use Rattle.product_chain.proofs.Forking.{known_fork, new_fork}
 use Rattle.product_chain.proofs.course.all_forks.Goals as goal
 use Rattle.product_chain.proofs.course.all_forks.Goals.{in-Some+in_ok-push-in-Some, in-None+in_ok-push-in-None+in_ok-push-in-None-2}
 

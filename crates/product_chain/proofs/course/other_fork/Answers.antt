@@ -1,5 +1,4 @@
-use Rattle.std.proofs.Common.{arith, ap, ◌∙◌, subst, ◌<◌, length, sym}
-use Rattle.std.proofs.lemmas.Grind.{common_steps}
+use Rattle.std.proofs.Common.{ap, ◌∙◌, subst, ◌<◌, length, sym}
 use Rattle.history_model.specs.declared.moves.Move.TheVariants.{C, D}
 use Rattle.history_model.specs.Automaton.{Row, next_of}
 use Rattle.product_chain.proofs.course.other_fork.Goals as goal

@@ -1,6 +1,6 @@
 use Rattle.std.proofs.Common.{◌≡◌, ℕ, ◌<◌, length, get_or}
 use Rattle.product_chain.specs.declared.course.Weights.{Weights}
-use Rattle.product_chain.specs.Course.{AreWeights, IsAnswer}
+use Rattle.product_chain.specs.Course.{AreWeights}
 use Rattle.product_chain.proofs.course.row_weights.Given as goal
 
 abbrev pub invariant-loop-row : goal.invariant-loop-row

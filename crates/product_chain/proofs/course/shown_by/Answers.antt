@@ -1,7 +1,3 @@
-use Rattle.std.proofs.Common.{sym, ap, subst, ◌≡◌, ◌≤◌, ◌+◌, ◌*◌, ◌-◌}
-use Rattle.history_model.specs.Noise.{FlipRate, IsFlipRate}
-use Rattle.history_model.specs.Expectation.{shown}
-use Rattle.history_model.specs.declared.moves.Move.TheVariants.{C, D}
 use Rattle.product_chain.proofs.Weighing.{shown_sum, shown_few}
 use Rattle.product_chain.proofs.course.shown_by.Goals as goal
 

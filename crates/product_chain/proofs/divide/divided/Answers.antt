@@ -1,4 +1,4 @@
-use Rattle.std.proofs.Common.{arith, ◌+◌, ◌*◌, ◌/◌, ◌%◌, ◌≡◌, ◌<◌, ◌^◌}
+use Rattle.std.proofs.Common.{arith, ◌+◌, ◌*◌, ◌/◌, ◌%◌, ◌≡◌, ◌^◌}
 use Rattle.product_chain.proofs.Reciprocal.{reciprocal_low, reciprocal_high}
 use Rattle.product_chain.proofs.divide.divided.Goals as goal
 

@@ -1,5 +1,5 @@
 use Rattle.std.proofs.Common.{◌≡◌, ℕ, ◌<◌, ◌*◌, length, get_or}
-use Rattle.history_model.specs.declared.moves.Move.TheVariants.{C, D}
+use Rattle.history_model.specs.declared.moves.Move.TheVariants.{C}
 use Rattle.history_model.specs.Expectation.{shown}
 use Rattle.history_model.specs.Automaton.{weight_at}
 use Rattle.product_chain.specs.Slim.{IsPart}

@@ -1,5 +1,5 @@
-use Rattle.std.proofs.Common.{arith, ◌+◌, ◌-◌, ◌*◌, ◌^◌, ◌≡◌, ◌≤◌}
-use Rattle.product_chain.proofs.Mixing.{mix_above, mix_fits, is_mix}
+use Rattle.std.proofs.Common.{arith, ◌+◌, ◌-◌, ◌^◌, ◌≡◌, ◌≤◌}
+use Rattle.product_chain.proofs.Mixing.{mix_above, is_mix}
 use Rattle.product_chain.proofs.slim.mix.Goals as goal
 
 pub overflow_sub-result : goal.overflow_sub-result

@@ -1,11 +1,10 @@
-use Rattle.std.proofs.Common.{arith, rules, ◌≡◌, ℕ, ◌+◌, ◌*◌, ◌<◌, ◌≤◌, ◌^◌, List, length, get_or, slice_index, ap, sym, subst, ◌∙◌, Vec, Global}
-use Rattle.std.proofs.lemmas.Grind.{get_or_default_zero}
+use Rattle.std.proofs.Common.{arith, ◌≡◌, ℕ, ◌+◌, ◌<◌, List, length, get_or, ap, sym, subst, ◌∙◌}
 use Rattle.std.specs.Vec.{with_items}
 use Rattle.history_model.specs.declared.moves.Move.TheVariants.{C, D}
 use Rattle.product_chain.specs.declared.course.Fork.{Fork}
 use Rattle.product_chain.specs.Course.{AreWeights}
-use Rattle.product_chain.specs.Layer.{IsRow, own_rows, other_rows, own_weight}
-use Rattle.product_chain.specs.Wide.{wide_grain, IsSumRow, AreDivided}
+use Rattle.product_chain.specs.Layer.{IsRow, own_rows, other_rows}
+use Rattle.product_chain.specs.Wide.{wide_grain}
 use Rattle.product_chain.proofs.Forking.{place_within, fork_there}
 use Rattle.product_chain.proofs.WideCells.{sum_row_within, read_sums, one_more_row}
 use Rattle.product_chain.proofs.Tables.{put_next, put_sized, put_length, written}

@@ -1,9 +1,9 @@
-use Rattle.std.proofs.Common.{arith, rules, ◌≡◌, ℕ, ◌+◌, ◌*◌, ◌<◌, ◌≤◌, ◌^◌, List, length, get_or, slice_index, ap, sym, subst, ◌∙◌, Vec, Global}
+use Rattle.std.proofs.Common.{rules, ◌≡◌, ℕ, ◌<◌, List, length, get_or, ap, sym, subst, ◌∙◌}
 use Rattle.std.proofs.lemmas.List.{get_or_default}
 use Rattle.std.specs.Vec.{with_items}
 use Rattle.product_chain.specs.declared.course.Fork.{Fork}
-use Rattle.product_chain.specs.Layer.{IsRow, other_rows}
-use Rattle.product_chain.specs.Wide.{wide_grain, IsSumRow, AreSummed}
+use Rattle.product_chain.specs.Layer.{other_rows}
+use Rattle.product_chain.specs.Wide.{wide_grain, IsSumRow}
 use Rattle.product_chain.proofs.Forking.{fork_inside}
 use Rattle.product_chain.proofs.WideCells.{row_room, sum_row}
 use Rattle.product_chain.proofs.Tables.{put_next, put_sized, put_length, layer_row, written}
