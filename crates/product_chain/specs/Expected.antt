@@ -1,5 +1,5 @@
 -- What a player expects to score.
-use Rattle.std.specs.Prelude.{ℕ, ◌+◌, ◌*◌, ◌/◌, ◌^◌, ◌≤◌, ◌≡◌, max, pos, ◌+ℤ◌, ◌-ℤ◌, ◌*ℤ◌, ◌≤ℤ◌, ◌<ℤ◌}
+use Rattle.std.specs.Prelude.{ℕ, ◌+◌, ◌*◌, ◌/◌, ◌^◌, ◌≤◌, ◌≡◌, max, pos, ◌+ℤ◌, ◌*ℤ◌, ◌≤ℤ◌, ◌<ℤ◌}
 use Rattle.history_model.specs.Automaton.{Automaton, IsSure}
 use Rattle.history_model.specs.Game.{Payoffs, least, most}
 use Rattle.history_model.specs.Noise.{FlipRate}
@@ -33,5 +33,5 @@ IsTight game n span = (m : ℕ) → 4 * n * score_units ≤ m * finest game n �
 
 -- the fraction is less than one unit from either end
 pub record IsSharp (units : ℕ) (span : Ends) (x : Fraction) : Type 0 where
-  pub low : (pos units *ℤ x.numerator) <ℤ ((span.lo +ℤ pos 1) *ℤ pos x.denominator)
-  pub high : ((span.hi -ℤ pos 1) *ℤ pos x.denominator) <ℤ (pos units *ℤ x.numerator)
+  pub low : (pos units *ℤ x.numerator) <ℤ ((span.lo *ℤ pos x.denominator) +ℤ pos x.denominator)
+  pub high : (span.hi *ℤ pos x.denominator) <ℤ ((pos units *ℤ x.numerator) +ℤ pos x.denominator)

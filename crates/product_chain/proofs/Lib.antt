@@ -1,0 +1,11 @@
+pub mod Weighing
+pub mod Forking
+pub mod Mixing
+pub mod Steps
+pub mod SlimCells
+pub mod Tables
+pub mod Reciprocal
+pub mod WideCells
+pub mod Ending
+pub mod Certain
+pub mod Estimating
