@@ -1,5 +1,5 @@
 -- A player of a side takes a sheet, and is then read.
-use Rattle.std.proofs.Common.{◌≡◌, ℕ, ◌+◌, ◌*◌, ◌^◌, ◌<◌, List, length, map, slice_set, slice_index_or, sym, ap, subst, arith}
+use Rattle.std.proofs.Common.{◌≡◌, ℕ, ◌+◌, ◌*◌, ◌^◌, ◌<◌, List, length, map, slice_set, slice_index_or, ap, subst, arith}
 use Rattle.std.proofs.lemmas.List.{map-set}
 use Rattle.history_model.specs.Automaton.{Automaton}
 use Rattle.player_core.specs.State.{PlayerState, IsState, more, state_at, no_state}
