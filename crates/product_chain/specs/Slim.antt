@@ -8,7 +8,7 @@ use Rattle.history_model.specs.Noise.{FlipRate}
 use Rattle.history_model.specs.Expectation.{shown}
 use Rattle.product_chain.specs.declared.side.Side.{Side}
 use Rattle.product_chain.specs.declared.course.Fork.{Fork}
-use Rattle.product_chain.specs.declared.slim.Plan.{Plan}
+use Rattle.product_chain.specs.declared.slim.SlimPlan.{SlimPlan}
 use Rattle.product_chain.specs.Layer.{Grain, IsNear, moved, plays, other_rows}
 use Rattle.product_chain.specs.Course.{IsCourse}
 use Rattle.product_chain.specs.Scale.{top}
@@ -49,7 +49,7 @@ pub record AreMovedTo (s : Side) (g : Grain) (n : ℕ) (mine : Move) (forks : Li
   pub each : (k : ℕ) (d : Vec ℕ Global) (e : Fork) → k < done → IsMovedRow s g n mine (slice_index_or forks k e) (slice_index_or rows k d).items
 
 -- the parts of both sides, and where their moves lead
-pub record IsPlan (plan : Plan) : Type 0 where
+pub record IsSlimPlan (plan : SlimPlan) : Type 0 where
   pub own_parts : AreParts plan.side.now.own.now plan.side.now.own_noise.now plan.own_parts.items
   pub other_parts : AreParts plan.side.now.other.now plan.side.now.other_noise.now plan.other_parts.items
   pub after_c : IsCourse plan.side.now C plan.after_c

@@ -9,9 +9,9 @@ ghost use Rattle.product_chain.specs.Scale.{IsScale};
 use crate::course::{Weights, shown_weights};
 use crate::scale::scale_of;
 use crate::side::Side;
-use crate::slim::{plan_of, run_slim};
+use crate::slim::{SLIM_ROOM, run_slim, slim_plan_of};
 use crate::sure::{is_sure, path_points, points_of};
-use crate::wide::{run_wide, weighed, wide_plan_of};
+use crate::wide::{WIDE_ROOM, run_wide, weighed, wide_plan_of};
 use history_model::{Move, NoMemory};
 use std::alloc::Global;
 
@@ -88,7 +88,7 @@ fn slim(alloc: Global, side: &Side, turns: u32, scale: u64) -> Result<Estimate, 
     requires enough { 6 * turns * score_units ≤ scale }
     ensures { IfOk result (λ estimate. IsEstimate side.now turns estimate) }
 {
-    let plan = plan_of(alloc, side, scale)?;
+    let plan = slim_plan_of(alloc, side, scale)?;
     let cell = run_slim(alloc, &plan, turns)?;
     Ok(Estimate {
         value: cell.saturating_sub(2 * turns as u64) as u128,
@@ -104,7 +104,7 @@ fn wide(alloc: Global, side: &Side, turns: u32) -> Result<Estimate, NoMemory>
     requires few_turns { turns ≤ 10000 }
     ensures { IfOk result (λ estimate. IsEstimate side.now turns estimate) }
 {
-    let scale = scale_of(side.game, turns, 1 << 86);
+    let scale = scale_of(side.game, turns, WIDE_ROOM);
     let plan = wide_plan_of(alloc, side, scale)?;
     let cell = run_wide(alloc, &plan, turns)?;
     Ok(Estimate {
@@ -129,7 +129,7 @@ pub fn estimate_of(alloc: Global, side: &Side, turns: u32) -> Result<Estimate, N
     if turns == 1 {
         return Ok(single(side));
     }
-    let scale = scale_of(side.game, turns, 0x7fff_ffff_ffff_ffff);
+    let scale = scale_of(side.game, turns, SLIM_ROOM);
     if 6_000_000_000_000 * turns as u128 <= scale {
         return slim(alloc, side, turns, scale as u64);
     }

@@ -1,11 +1,12 @@
-//! The chain in 64 bits.
+//! The chain in 64 bits: means by parts of a whole, rounded down. A turn misses 6 parts of a point at
+//! most.
 ghost use Rattle.std.specs.Prelude.{◌≡◌, ℕ, ◌+◌, ◌-◌, ◌*◌, ◌/◌, ◌^◌, ◌<◌, ◌≤◌, List, length, IfOk, replicate, slice_index, slice_index_or, Vec};
 ghost use Rattle.std.specs.declared.alloc.Global.{Global};
 ghost use Rattle.history_model.specs.Expectation.{shown};
 ghost use Rattle.product_chain.specs.Course.{AreInside, AreRowWeights, IsCourse};
 ghost use Rattle.product_chain.specs.Layer.{IsCell, AreNone, IsLayer, IsSide, IsTable, own_rows, other_rows};
 ghost use Rattle.product_chain.specs.Scale.{IsScale};
-ghost use Rattle.product_chain.specs.Slim.{AreDrawn, AreLess, AreMixed, HasRoom, AreMovedTo, AreParts, IsMix, IsPart, IsPlan, slim_grain};
+ghost use Rattle.product_chain.specs.Slim.{AreDrawn, AreLess, AreMixed, HasRoom, AreMovedTo, AreParts, IsMix, IsPart, IsSlimPlan, slim_grain};
 
 use crate::course::{Course, Fork, course_of, shown_weights};
 use crate::divide::upper;
@@ -16,10 +17,13 @@ use std::alloc::Global;
 
 const WHOLE: u64 = 0x8000_0000_0000_0000;
 
+/// The parts that the points of all turns may come to.
+pub const SLIM_ROOM: u128 = 0x7fff_ffff_ffff_ffff;
+
 /// All that the turns have in common: the parts of C at each row, where the moves lead, and the parts
 /// of a point.
 #[derive(Drop)]
-pub struct Plan<'a> {
+pub struct SlimPlan<'a> {
     pub side: &'a Side<'a>,
     pub scale: u64,
     pub own_parts: Vec<u64>,
@@ -28,7 +32,7 @@ pub struct Plan<'a> {
     pub after_d: Course,
 }
 
-// The mean of `c` by the part and of `d` by the rest.
+// The mean of `c` by the part and of `d` by the rest of a whole: d + part * (c - d), with no sign.
 #[inline(always)]
 fn mix(part: u64, c: u64, d: u64) -> u64
     requires part { part < 2 ^ 63 }
@@ -88,7 +92,7 @@ fn part(weight: u64, over: u64) -> u64
     ensures { IsPart weight over result }
 {
     let parts = weight as u128 * WHOLE as u128 / over as u128;
-    parts.min(0x7fff_ffff_ffff_ffff) as u64
+    parts.min(WHOLE as u128 - 1) as u64
 }
 
 // The parts of C at each row.
@@ -105,13 +109,17 @@ fn all_parts(alloc: Global, grid: &Grid, noise: &Noise, over: u64) -> Result<Vec
 }
 
 /// What the turns have in common, for a scale.
-pub fn plan_of<'a>(alloc: Global, side: &'a Side<'a>, scale: u64) -> Result<Plan<'a>, NoMemory>
+pub fn slim_plan_of<'a>(
+    alloc: Global,
+    side: &'a Side<'a>,
+    scale: u64,
+) -> Result<SlimPlan<'a>, NoMemory>
     requires valid { IsSide side.now }
-    ensures plan { IfOk result IsPlan }
+    ensures plan { IfOk result IsSlimPlan }
     ensures side { IfOk result (λ plan. plan.side.now ≡ side.now) }
     ensures scale { IfOk result (λ plan. plan.scale ≡ scale) }
 {
-    Ok(Plan {
+    Ok(SlimPlan {
         side,
         scale,
         own_parts: all_parts(alloc, side.own, side.own_noise, side.own_over)?,
@@ -136,14 +144,14 @@ fn no_cells(alloc: Global, rows: usize, width: usize) -> Result<Vec<Vec<u64>>, N
 fn fill_moved(
     cells: &mut [Vec<u64>],
     layer: &[Vec<u64>],
-    plan: &Plan,
+    plan: &SlimPlan,
     course: &Course,
     mine: Move,
     n: u32,
     turns: u32,
 )
     requires valid { IsSide plan.now.side.now }
-    requires plan { IsPlan plan.now }
+    requires plan { IsSlimPlan plan.now }
     requires course { IsCourse plan.now.side.now mine course.now }
     requires scale { IsScale plan.now.side.now.game.now turns (2 ^ 63 - 1) plan.now.scale }
     requires n { n < turns }
@@ -172,12 +180,12 @@ fn fill_layer(
     layer: &mut [Vec<u64>],
     if_c: &[Vec<u64>],
     if_d: &[Vec<u64>],
-    plan: &Plan,
+    plan: &SlimPlan,
     n: u32,
     turns: u32,
 )
     requires valid { IsSide plan.now.side.now }
-    requires plan { IsPlan plan.now }
+    requires plan { IsSlimPlan plan.now }
     requires scale { IsScale plan.now.side.now.game.now turns (2 ^ 63 - 1) plan.now.scale }
     requires n { n < turns }
     requires if_c { AreMovedTo plan.now.side.now (slim_grain plan.now.side.now plan.now.scale) n Move.C plan.now.after_c.forks.items (length plan.now.after_c.forks.items) if_c.now }
@@ -196,9 +204,9 @@ fn fill_layer(
 }
 
 /// The cell of the starts with all turns to come.
-pub fn run_slim(alloc: Global, plan: &Plan, turns: u32) -> Result<u64, NoMemory>
+pub fn run_slim(alloc: Global, plan: &SlimPlan, turns: u32) -> Result<u64, NoMemory>
     requires valid { IsSide plan.now.side.now }
-    requires plan { IsPlan plan.now }
+    requires plan { IsSlimPlan plan.now }
     requires scale { IsScale plan.now.side.now.game.now turns (2 ^ 63 - 1) plan.now.scale }
     ensures { IfOk result (IsCell plan.now.side.now (slim_grain plan.now.side.now plan.now.scale) turns plan.now.side.now.own.now.start plan.now.side.now.other.now.start) }
 {

@@ -1,4 +1,5 @@
-//! The chain in 128 bits.
+//! The chain in 128 bits: exact sums by the weights of a turn, divided once. A turn misses 4 parts of a
+//! point at most.
 ghost use Rattle.std.specs.Prelude.{◌≡◌, ℕ, ◌+◌, ◌*◌, ◌/◌, ◌^◌, ◌<◌, ◌≤◌, List, length, IfOk, replicate, slice_index, slice_index_or, Vec};
 ghost use Rattle.std.specs.declared.alloc.Global.{Global};
 ghost use Rattle.product_chain.specs.Course.{AreInside, IsCourse};
@@ -12,6 +13,9 @@ use crate::scale::gain;
 use crate::side::Side;
 use history_model::{Move, NoMemory};
 use std::alloc::Global;
+
+/// The parts that the points of all turns may come to.
+pub const WIDE_ROOM: u128 = 1 << 86;
 
 /// All that the turns have in common: the weights of the moves at each row, where the moves lead, the
 /// denominator of one play, and the parts of a point.
