@@ -1,12 +1,12 @@
 //! Matches that aren't sure. What the program prints is compared with fractions from an independent
 //! program, and with the model's own way through all histories.
-ghost use Rattle.std.specs.Prelude.{◌≡◌, ◌≤◌, IfOk};
+ghost use Rattle.std.specs.Prelude.{◌≡◌, IfOk};
 
 use crate::call::{calm, run};
 use crate::hostile::check;
 use crate::reading_back::score;
 use axlab_core::Status;
-use history_model::{Game, Grid, GridRow, NoMemory, Noise, play_all};
+use history_model::{Game, Grid, GridRow, NoMemory, Noise, WholePair, play_all};
 use std::alloc::Global;
 use std::fmt::Write;
 use std::test::Fail;
@@ -211,10 +211,17 @@ fn stay(alloc: Global) -> Result<Grid, NoMemory>
     })
 }
 
-// The scores of `stay` against `tft` by the model's way through all histories.
-fn enumerated(alloc: Global, turns: u32) -> Result<[u128; 3], Fail>
-    requires { turns ≤ 4 }
-{
+// Two numerators and their denominator.
+fn fractions(scores: WholePair) -> Result<[u128; 3], Fail> {
+    Ok([
+        u128::try_from(scores.left)?,
+        u128::try_from(scores.right)?,
+        u128::try_from(scores.over)?,
+    ])
+}
+
+// The scores of `stay` against `tft` in one to four turns, by the model's way through all histories.
+fn enumerated(alloc: Global) -> Result<[[u128; 3]; 4], Fail> {
     let game = Game {
         r: 3,
         s: 0,
@@ -222,13 +229,13 @@ fn enumerated(alloc: Global, turns: u32) -> Result<[u128; 3], Fail>
         p: 1,
     };
     let noise = Noise { n: 1, e: 10 };
-    let left = stay(alloc)?;
-    let right = tit_for_tat(alloc)?;
-    let scores = play_all(&left, &right, &game, &noise, &noise, turns);
+    let stay = stay(alloc)?;
+    let tft = tit_for_tat(alloc)?;
     Ok([
-        u128::try_from(scores.left)?,
-        u128::try_from(scores.right)?,
-        u128::try_from(scores.over)?,
+        fractions(play_all(&stay, &tft, &game, &noise, &noise, 1))?,
+        fractions(play_all(&stay, &tft, &game, &noise, &noise, 2))?,
+        fractions(play_all(&stay, &tft, &game, &noise, &noise, 3))?,
+        fractions(play_all(&stay, &tft, &game, &noise, &noise, 4))?,
     ])
 }
 
@@ -246,9 +253,11 @@ fn prints_what_both_sides_expect(rt: HostRuntime) -> Result<(), Fail> {
         let got = report(alloc, *noise, *left, *right, *turns, 0)?;
         check_scores(alloc, got.as_str(), *exact)?;
     }
-    for turns in 1..5 {
+    let mut turns: u32 = 1;
+    for exact in enumerated(alloc)? {
         let got = report(alloc, "1/10", "stay", "tft", turns, 7)?;
-        check_scores(alloc, got.as_str(), enumerated(alloc, turns)?)?;
+        check_scores(alloc, got.as_str(), exact)?;
+        turns = turns.saturating_add(1);
     }
     Ok(())
 }

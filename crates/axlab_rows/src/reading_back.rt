@@ -19,10 +19,14 @@ const CHANGES: [&str; 14] = [
     "", "0", "1", "4", "9", "|", ".", "..", "\n", "\r", " ", "a", "~", "é",
 ];
 
+fn are_digits(text: &str) -> bool {
+    text.bytes().all(|byte| byte.is_ascii_digit())
+}
+
 // A whole number in decimal, without leading zeros.
 fn whole(text: &str, most: u128) -> Option<u128> {
     let is_plain = text == "0" || !text.starts_with('0');
-    if !is_plain || !text.bytes().all(|byte| byte.is_ascii_digit()) {
+    if !is_plain || !are_digits(text) {
         return None;
     }
     let number = text.parse::<u128>().ok()?;
@@ -32,7 +36,7 @@ fn whole(text: &str, most: u128) -> Option<u128> {
 // Points with twelve decimals, in units.
 fn units(text: &str) -> Option<u128> {
     let (points, decimals) = text.split_once('.')?;
-    if decimals.len() != 12 || !decimals.bytes().all(|byte| byte.is_ascii_digit()) {
+    if decimals.len() != 12 || !are_digits(decimals) {
         return None;
     }
     let points = whole(points, MOST_POINTS)?.checked_mul(UNITS)?;
