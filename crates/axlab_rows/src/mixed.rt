@@ -211,17 +211,11 @@ fn stay(alloc: Global) -> Result<Grid, NoMemory>
     })
 }
 
-// Two numerators and their denominator.
-fn fractions(scores: WholePair) -> Result<[u128; 3], Fail> {
-    Ok([
-        u128::try_from(scores.left)?,
-        u128::try_from(scores.right)?,
-        u128::try_from(scores.over)?,
-    ])
-}
-
 // The scores of `stay` against `tft` in one to four turns, by the model's way through all histories.
-fn enumerated(alloc: Global) -> Result<[[u128; 3]; 4], Fail> {
+fn enumerated(stay: &Grid, tft: &Grid, turns: u32) -> WholePair
+    requires stay { stay.now.den ≡ 4 }
+    requires tft { tft.now.den ≡ 1 }
+{
     let game = Game {
         r: 3,
         s: 0,
@@ -229,13 +223,23 @@ fn enumerated(alloc: Global) -> Result<[[u128; 3]; 4], Fail> {
         p: 1,
     };
     let noise = Noise { n: 1, e: 10 };
+    match turns {
+        1 => play_all(stay, tft, &game, &noise, &noise, 1),
+        2 => play_all(stay, tft, &game, &noise, &noise, 2),
+        3 => play_all(stay, tft, &game, &noise, &noise, 3),
+        _ => play_all(stay, tft, &game, &noise, &noise, 4),
+    }
+}
+
+// The same as two numerators and their denominator.
+fn enumerated_fractions(alloc: Global, turns: u32) -> Result<[u128; 3], Fail> {
     let stay = stay(alloc)?;
     let tft = tit_for_tat(alloc)?;
+    let scores = enumerated(&stay, &tft, turns);
     Ok([
-        fractions(play_all(&stay, &tft, &game, &noise, &noise, 1))?,
-        fractions(play_all(&stay, &tft, &game, &noise, &noise, 2))?,
-        fractions(play_all(&stay, &tft, &game, &noise, &noise, 3))?,
-        fractions(play_all(&stay, &tft, &game, &noise, &noise, 4))?,
+        u128::try_from(scores.left)?,
+        u128::try_from(scores.right)?,
+        u128::try_from(scores.over)?,
     ])
 }
 
@@ -253,11 +257,9 @@ fn prints_what_both_sides_expect(rt: HostRuntime) -> Result<(), Fail> {
         let got = report(alloc, *noise, *left, *right, *turns, 0)?;
         check_scores(alloc, got.as_str(), *exact)?;
     }
-    let mut turns: u32 = 1;
-    for exact in enumerated(alloc)? {
+    for turns in 1..5 {
         let got = report(alloc, "1/10", "stay", "tft", turns, 7)?;
-        check_scores(alloc, got.as_str(), exact)?;
-        turns = turns.saturating_add(1);
+        check_scores(alloc, got.as_str(), enumerated_fractions(alloc, turns)?)?;
     }
     Ok(())
 }
