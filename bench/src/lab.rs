@@ -112,9 +112,20 @@ fn list(text: &str, key: &str) -> Option<Vec<u64>> {
 /// The lab of two lookups over the last `depth` moves of both sides, with pseudo-random weights over
 /// 10, under the noise 1/100.
 pub fn lab_text(depth: u32, turns: u64) -> String {
+    let mut text = entries_text(&["left", "right"].map(String::from), depth);
+    write!(
+        text,
+        "\n[match]\nleft = \"left\"\nright = \"right\"\nturns = {turns}\n"
+    )
+    .unwrap();
+    text
+}
+
+/// The head of such a lab, with a lookup for each name, and no job.
+pub fn entries_text(names: &[String], depth: u32) -> String {
     let mut text = String::from("version = 1\n\n[noise]\nn = 1\ne = 100\n");
     let mut seed = 1;
-    for name in ["left", "right"] {
+    for name in names {
         let opening = weights(&mut seed, depth as usize);
         let table = weights(&mut seed, 1 << (2 * depth));
         write!(
@@ -124,11 +135,6 @@ pub fn lab_text(depth: u32, turns: u64) -> String {
         )
         .unwrap();
     }
-    write!(
-        text,
-        "\n[match]\nleft = \"left\"\nright = \"right\"\nturns = {turns}\n"
-    )
-    .unwrap();
     text
 }
 

@@ -1,6 +1,7 @@
 //! The expected scores of a mixed match in plain Rust, to compare the program's speed with.
 //!
 //!     bench lab DEPTH TURNS      writes a lab of two lookups to standard output
+//!     bench entries COUNT DEPTH  writes such a lab of so many lookups, without a job
 //!     bench a|b|c LAB            prints both scores by a method
 //!     bench agree LAB REPORT     says whether the three methods and axlab's report agree
 
@@ -9,7 +10,7 @@ mod lab;
 mod methods;
 
 use agree::{disagreement, fine_spans, report_spans};
-use lab::{lab_text, read_lab, Lab};
+use lab::{entries_text, lab_text, read_lab, Lab};
 use methods::{doubles, one_sided, two_sided, Span, UNITS};
 use std::process::ExitCode;
 
@@ -45,6 +46,10 @@ fn answer(words: &[&str]) -> Result<String, String> {
     let number = |word: &str| word.parse().map_err(|_| format!("{word} is no number"));
     match words {
         ["lab", depth, turns] => Ok(lab_text(number(depth)? as u32, number(turns)?)),
+        ["entries", count, depth] => {
+            let names: Vec<String> = (0..number(count)?).map(|place| format!("e{place}")).collect();
+            Ok(entries_text(&names, number(depth)? as u32))
+        }
         ["a", lab] => Ok(two_sided(&read(lab)?)
             .map(|span| shown(span, UNITS, 12))
             .join(" ")),
@@ -63,7 +68,7 @@ fn answer(words: &[&str]) -> Result<String, String> {
             agree(&read(lab)?, &report)
         }
         _ => Err(String::from(
-            "words: lab DEPTH TURNS, a LAB, b LAB, c LAB, or agree LAB REPORT",
+            "words: lab DEPTH TURNS, entries COUNT DEPTH, a LAB, b LAB, c LAB, or agree LAB REPORT",
         )),
     }
 }

@@ -16,8 +16,8 @@ use Rattle.match_play.specs.declared.line.MatchLine.{MatchLine}
 use Rattle.product_chain.specs.Expected.{expected_score}
 use Rattle.round_robin.specs.Line.{IsLineOf, IsScored}
 use Rattle.lab_file.specs.Lab.{LabData}
-use Rattle.axlab_core.specs.Entrants.{Entrant, IsEntrant, rule_player, expects}
-use Rattle.axlab_core.specs.RightLine.{IsRightScore, IsRightBetween}
+use Rattle.axlab_core.specs.Entrants.{Entrant, IsEntrant, rule_player, expects, expects_in}
+use Rattle.axlab_core.specs.RightLine.{IsRightScore, IsRightLine, IsRightBetween}
 
 holds_same : (span : Ends) (x y : Fraction) → x ≡ y → Holds score_units span x → Holds score_units span y
 holds_same span x y same holds = rw (← same) holds
@@ -33,12 +33,12 @@ module _ (vectors : FollowsRule MemoryOne) (machines : FollowsRule Machine) (tab
   alike : (entrant : Entrant) → IsSheet entrant.sheet → ChooseAlike (player (entry_automaton players entrant.sheet)) (rule_player players entrant)
   alike entrant valid = record { den = refl; weight = λ history. by_kind entrant.sheet.kind entrant.sheet history valid refl }
 
-  expects_alike : (lab : LabData) (turns : ℕ) (own other : Entrant) → IsSheet own.sheet → IsSheet other.sheet
-      → expected_score (player (entry_automaton players own.sheet)) own.noise (player (entry_automaton players other.sheet)) other.noise lab.game 0 turns
-      ≡ expects players lab turns own other
-  expects_alike lab turns own other valid other_valid =
-      ap (λ z. record { numerator = z; denominator = (expects players lab turns own other).denominator })
-      (decide _ _ own.noise _ _ other.noise lab.game 0 turns (alike own valid) (alike other other_valid))
+  pub expects_alike : (game : Payoffs) (turns : ℕ) (own other : Entrant) → IsSheet own.sheet → IsSheet other.sheet
+      → expected_score (player (entry_automaton players own.sheet)) own.noise (player (entry_automaton players other.sheet)) other.noise game 0 turns
+      ≡ expects_in players game turns own other
+  expects_alike game turns own other valid other_valid =
+      ap (λ z. record { numerator = z; denominator = (expects_in players game turns own other).denominator })
+      (decide _ _ own.noise _ _ other.noise game 0 turns (alike own valid) (alike other other_valid))
 
   module _ (lab : LabData) (left right : Entrant) (left_valid : IsSheet left.sheet) (right_valid : IsSheet right.sheet) where
     right_score : (line : MatchLine) (tally : Option Tally)
@@ -47,8 +47,8 @@ module _ (vectors : FollowsRule MemoryOne) (machines : FollowsRule Machine) (tab
     right_score line (Some tally) played = record { sure = played.sure; plays = played.plays; left_score = played.left; right_score = played.right }
     right_score line None mixed = record {
       unsure = mixed.unsure;
-      left_holds = holds_same line.left_score _ (expects players lab line.turns left right) (expects_alike lab line.turns left right left_valid right_valid) mixed.left.holds;
-      right_holds = holds_same line.right_score _ (expects players lab line.turns right left) (expects_alike lab line.turns right left right_valid left_valid) mixed.right.holds;
+      left_holds = holds_same line.left_score _ (expects players lab line.turns left right) (expects_alike lab.game line.turns left right left_valid right_valid) mixed.left.holds;
+      right_holds = holds_same line.right_score _ (expects players lab line.turns right left) (expects_alike lab.game line.turns right left right_valid left_valid) mixed.right.holds;
       left_width = mixed.left.width;
       right_width = mixed.right.width;
       left_tight = mixed.left.narrow;
@@ -56,6 +56,11 @@ module _ (vectors : FollowsRule MemoryOne) (machines : FollowsRule Machine) (tab
     }
 
     -- the line of two automata is right for the entries that they play for
+    pub right_line : (line : MatchLine) → IsLineOf (entry_automaton players left.sheet) left.noise (entry_automaton players right.sheet) right.noise lab.game line.turns line
+        → IsRightLine players lab left right line
+    right_line line scored = right_score line line.tally scored
+
+    -- and so where the game and the turns are known otherwise
     pub right_between : (i j turns : ℕ) (line : MatchLine) (game : Payoffs) → game ≡ lab.game → IsEntrant lab i left → IsEntrant lab j right → line.turns ≡ turns
         → IsLineOf (entry_automaton players left.sheet) left.noise (entry_automaton players right.sheet) right.noise game turns line
         → IsRightBetween players lab i j turns line
@@ -65,5 +70,5 @@ module _ (vectors : FollowsRule MemoryOne) (machines : FollowsRule Machine) (tab
       left_is = left_is;
       right_is = right_is;
       turns_are = turns_are;
-      score = right_score line line.tally (rw (of_lab, ← turns_are) at scored);
+      score = right_line line (rw (of_lab, ← turns_are) at scored);
     }

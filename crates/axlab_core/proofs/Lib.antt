@@ -1,7 +1,15 @@
 pub mod ByRule
 pub mod Completeness
+pub mod Contesting
+pub mod DrillReports
+pub mod Drilling
+pub mod Drills
 pub mod Entries
 pub mod Loading
 pub mod Noting
+pub mod Points
 pub mod Reports
+pub mod Sending
 pub mod Showing
+pub mod TableLines
+pub mod Tables

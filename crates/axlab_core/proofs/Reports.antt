@@ -1,12 +1,12 @@
 -- The report that is made of a right line is right.
-use Rattle.std.proofs.Common.{◌≡◌, ℕ, List, bytes_eq, Option, Some, None, Result, Ok, Err, IfOk, Vec, if◌then◌else◌, refl, inl, inr}
+use Rattle.std.proofs.Common.{◌≡◌, ℕ, List, bytes_eq, Option, Some, None, Result, Ok, Err, IfOk, if◌then◌else◌, refl, inl, inr}
 use Rattle.std.proofs.lemmas.Bool.{cases_Bool}
 use Rattle.std.proofs.lemmas.Slice.Eq.{bytes_eq-Decides}
-use Rattle.std.specs.declared.alloc.Global.{Global}
 use Rattle.history_model.specs.declared.tally.Tally.{Tally}
 use Rattle.player_core.specs.State.{Lasting}
 use Rattle.player_core.specs.Fits.{Fits}
 use Rattle.match_play.specs.declared.line.MatchLine.{MatchLine}
+use Rattle.lab_report.specs.declared.report.Report.{Report}
 use Rattle.lab_report.specs.Made.{names_of_pair, match_report_of}
 use Rattle.lab_report.specs.Names.{name_at}
 use Rattle.lab_report.specs.Text.{report_text}
@@ -14,7 +14,7 @@ use Rattle.lab_report.specs.Valid.{IsValid}
 use Rattle.lab_file.specs.declared.jobs.MatchJob.{MatchJob}
 use Rattle.lab_file.specs.Lab.{LabData, entry_at}
 use Rattle.axlab_core.specs.Entrants.{Entrant}
-use Rattle.axlab_core.specs.Right.{IsRightMatch}
+use Rattle.axlab_core.specs.RightMatch.{IsRightMatch}
 use Rattle.axlab_core.specs.RightLine.{IsRightScore, IsRightBetween}
 
 -- the places of two names in their report
@@ -28,7 +28,7 @@ right_shown left right = elim (cases_Bool (bytes_eq left right)) [
 ]
 
 -- where its names stand changes nothing of what a line says
-placed : (players : List Lasting) (lab : LabData) (left right : Entrant) (line : MatchLine) (i j : ℕ) (tally : Option Tally)
+pub placed : (players : List Lasting) (lab : LabData) (left right : Entrant) (line : MatchLine) (i j : ℕ) (tally : Option Tally)
     → IsRightScore players lab left right line tally → IsRightScore players lab left right (record line { left = i; right = j }) tally
 placed players lab left right line i j (Some tally) played = record { sure = played.sure; plays = played.plays; left_score = played.left_score; right_score = played.right_score }
 placed players lab left right line i j None mixed = record {
@@ -41,21 +41,22 @@ placed players lab left right line i j None mixed = record {
   right_tight = mixed.right_tight;
 }
 
-pub right_report : {E : Type 0} (players on_the_right : List Lasting) → Fits players on_the_right → (lab : LabData) (job : MatchJob) (line : MatchLine) (made : Result (Vec ℕ Global) E)
+pub right_report : {E : Type 0} (players on_the_right : List Lasting) → Fits players on_the_right → (lab : LabData) (job : MatchJob) (line : MatchLine) (made : Result Report E)
     → lab.jobs.match_job ≡ Some job → IsRightBetween players lab job.left job.right job.turns line
-    → IfOk made (λ bytes. bytes.items ≡ report_text (match_report_of lab.game lab.noise (entry_at lab.entries job.left).name (entry_at lab.entries job.right).name line))
-    → IfOk made (λ _. IsValid (match_report_of lab.game lab.noise (entry_at lab.entries job.left).name (entry_at lab.entries job.right).name line))
-    → IfOk made (λ bytes. IsRightMatch players lab bytes.items)
-right_report players on_the_right fits lab job line (Ok bytes) is right text valid =
+    → IfOk made (λ report. report ≡ match_report_of lab.game lab.noise (entry_at lab.entries job.left).name (entry_at lab.entries job.right).name line)
+    → IfOk made IsValid → IfOk made (λ report. IsRightMatch players lab (report_text report))
+right_report players on_the_right fits lab job line (Ok report) is right made_is valid =
     let left_name = (entry_at lab.entries job.left).name in
     let right_name = (entry_at lab.entries job.right).name in
     let j = if bytes_eq left_name right_name then 0 else 1 in
-    record {
+    let made = match_report_of lab.game lab.noise left_name right_name line in
+    let valid_so : IsValid made = rw made_is at valid in
+    let here : IsRightMatch players lab (report_text made) = record {
       job = job;
       job_is = is;
-      report = match_report_of lab.game lab.noise left_name right_name line;
-      valid = valid;
-      text = text;
+      report = made;
+      valid = valid_so;
+      text = refl;
       of_lab = record { version = refl; game = refl; noise = refl };
       line = record line { left = 0; right = j };
       body = refl;
@@ -69,5 +70,5 @@ right_report players on_the_right fits lab job line (Ok bytes) is right text val
         turns_are = right.turns_are;
         score = placed players lab right.left right.right line 0 j line.tally right.score;
       };
-    }
-right_report players on_the_right fits lab job line (Err error) is right text valid = tt
+    } in rw made_is here
+right_report players on_the_right fits lab job line (Err error) is right made_is valid = tt

@@ -13,8 +13,8 @@ has_option (word ∷ words) = is_option word || has_option words
 -- a command with a lab that isn't built
 abbrev pub is_unbuilt : List ℕ → Bool
 is_unbuilt word =
-    bytes_eq word (codes "tournament") || bytes_eq word (codes "rota") || bytes_eq word (codes "board")
-    || bytes_eq word (codes "moran") || bytes_eq word (codes "best") || bytes_eq word (codes "mean")
+    bytes_eq word (codes "rota") || bytes_eq word (codes "board") || bytes_eq word (codes "moran")
+    || bytes_eq word (codes "best") || bytes_eq word (codes "mean")
     || bytes_eq word (codes "certificate") || bytes_eq word (codes "summary")
 
 -- a command with a lab and a second file that isn't built

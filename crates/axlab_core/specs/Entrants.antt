@@ -2,6 +2,7 @@
 use Rattle.std.specs.Prelude.{ℕ, ◌≡◌, List}
 use Rattle.history_model.specs.Automaton.{Automaton}
 use Rattle.history_model.specs.Expectation.{Chooser}
+use Rattle.history_model.specs.Game.{Payoffs}
 use Rattle.history_model.specs.Noise.{FlipRate}
 use Rattle.fixed_span.specs.Span.{Fraction}
 use Rattle.player_core.specs.State.{Lasting}
@@ -33,6 +34,10 @@ rule_player players entrant = record {
 abbrev pub automaton_of_entrant : List Lasting → Entrant → Automaton
 automaton_of_entrant players entrant = entry_automaton players entrant.sheet
 
--- what one entry expects to score against another in so many turns
+-- what one entry expects to score against another in so many turns of a game
+abbrev pub expects_in : List Lasting → Payoffs → ℕ → Entrant → Entrant → Fraction
+expects_in players game turns own other = expected_score (rule_player players own) own.noise (rule_player players other) other.noise game 0 turns
+
+-- and of the lab's game
 abbrev pub expects : List Lasting → LabData → ℕ → Entrant → Entrant → Fraction
-expects players lab turns own other = expected_score (rule_player players own) own.noise (rule_player players other) other.noise lab.game 0 turns
+expects players lab turns own other = expects_in players lab.game turns own other

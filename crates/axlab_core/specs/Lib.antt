@@ -1,10 +1,16 @@
 pub mod Commands
 pub mod Complete
+pub mod Contestants
 pub mod Entrants
 pub mod Loading
+pub mod Machines
 pub mod Outcome
 pub mod Right
+pub mod RightDrill
 pub mod RightLine
+pub mod RightMatch
+pub mod RightTournament
+pub mod Sent
 pub mod Sides
 pub mod Steps
 pub mod Texts

@@ -33,10 +33,22 @@ abbrev pub IfDenied : Status → (ℕ → Type 0) → Type 0
 IfDenied (Denied line) p = p line
 IfDenied _ p = Unit {0}
 
--- every status but Answered and WriteFault
+abbrev pub OnNoMemory : Status → Type 0 → Type 0
+OnNoMemory NoMemory p = p
+OnNoMemory _ p = Unit {0}
+
+-- the output took all, or failed, or memory was wanted
+abbrev pub IsSent : Status → Type 0
+IsSent Answered = Unit {0}
+IsSent WriteFault = Unit {0}
+IsSent NoMemory = Unit {0}
+IsSent _ = ⊥
+
+-- every status but Answered, WriteFault and NoMemory
 abbrev pub OnUnwritten : Status → Type 0 → Type 0
 OnUnwritten Answered p = Unit {0}
 OnUnwritten WriteFault p = Unit {0}
+OnUnwritten NoMemory p = Unit {0}
 OnUnwritten _ p = p
 
 -- every status but Answered

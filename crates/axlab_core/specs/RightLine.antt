@@ -7,9 +7,16 @@ use Rattle.player_core.specs.State.{Lasting}
 use Rattle.fixed_span.specs.Span.{Holds, IsWithin, point, score_units}
 use Rattle.match_play.specs.declared.line.MatchLine.{MatchLine}
 use Rattle.product_chain.specs.Expected.{IsSureMatch, IsTight}
+use Rattle.lab_report.specs.declared.report.Report.{Report}
 use Rattle.round_robin.specs.Asked.{Turns, IsAsked}
 use Rattle.lab_file.specs.Lab.{LabData}
 use Rattle.axlab_core.specs.Entrants.{Entrant, IsEntrant, automaton_of_entrant, expects}
+
+-- the report is of this lab: its head shows the lab's version, game and noise
+pub record IsOfLab (lab : LabData) (report : Report) : Type 0 where
+  pub version : report.version ≡ 1
+  pub game : report.game ≡ lab.game
+  pub noise : report.noise ≡ lab.noise
 
 -- neither of the two leaves anything to chance
 abbrev pub IsSurePair : List Lasting → Entrant → Entrant → Type 0

@@ -2,10 +2,14 @@
 //! the report.
 #![tactic(auto)]
 
+mod drill;
 mod load;
+mod matches;
 mod run;
+mod sending;
 mod status;
 mod telling;
+mod tournament;
 mod words;
 
 pub use run::axlab;

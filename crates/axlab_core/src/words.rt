@@ -3,11 +3,16 @@ ghost use Rattle.std.specs.Prelude.{◌≡◌};
 ghost use Rattle.axlab_core.specs.Commands.{is_unbuilt, is_unbuilt_pair, is_option, has_option};
 ghost use Rattle.axlab_core.specs.WordList.{word_list};
 
+use lab_file::Command;
+use texts::small;
+
 /// What the words ask for.
 #[derive(Clone, Copy, Debug, PartialEq, Eq)]
 pub enum Form {
-    /// `match LAB`
-    Match,
+    /// A command with a lab.
+    Lab(Command),
+    /// A drill of a number.
+    Drill(u64),
     /// A listed form whose command isn't built yet.
     Unbuilt,
     /// No listed form.
@@ -15,7 +20,7 @@ pub enum Form {
 }
 
 impl Form {
-    ghost use Rattle.axlab_core.specs.Words.{form_of, listed_form};
+    ghost use Rattle.axlab_core.specs.Words.{form_of, listed_form, pair_form, drill_form, command_form};
 
     /// The form of these words.
     pub(crate) fn of(words: &Vec<String>) -> Form
@@ -33,15 +38,7 @@ impl Form {
         ensures { result ≡ listed_form (word_list words.now) }
     {
         match words.as_slice() {
-            [word, _] => {
-                if word.as_str() == "match" {
-                    Form::Match
-                } else if is_unbuilt(word.as_str()) {
-                    Form::Unbuilt
-                } else {
-                    Form::Faulty
-                }
-            }
+            [word, second] => Form::of_pair(word.as_str(), second.as_str()),
             [word, _, _] => {
                 if is_unbuilt_pair(word.as_str()) {
                     Form::Unbuilt
@@ -50,6 +47,42 @@ impl Form {
                 }
             }
             _ => Form::Faulty,
+        }
+    }
+
+    // A word and one behind it.
+    fn of_pair(word: &str, second: &str) -> Form
+        ensures { result ≡ pair_form word.now second.now }
+    {
+        if word == "drill" {
+            Form::of_drill(small(second.as_bytes()))
+        } else {
+            Form::of_command(word)
+        }
+    }
+
+    // A drill, where the word behind it is a number.
+    fn of_drill(number: Option<u64>) -> Form
+        ensures { result ≡ drill_form number }
+    {
+        match number {
+            Some(number) => Form::Drill(number),
+            None => Form::Faulty,
+        }
+    }
+
+    // A command with a lab, by its word.
+    fn of_command(word: &str) -> Form
+        ensures { result ≡ command_form word.now }
+    {
+        if word == "match" {
+            Form::Lab(Command::Match)
+        } else if word == "tournament" {
+            Form::Lab(Command::Tournament)
+        } else if is_unbuilt(word) {
+            Form::Unbuilt
+        } else {
+            Form::Faulty
         }
     }
 }
@@ -78,8 +111,7 @@ fn is_option(word: &str) -> bool
 fn is_unbuilt(word: &str) -> bool
     ensures { result ≡ is_unbuilt word.now }
 {
-    word == "tournament"
-        || word == "rota"
+    word == "rota"
         || word == "board"
         || word == "moran"
         || word == "best"

@@ -1,6 +1,6 @@
 //! One call of the program over files and sinks in memory.
 use axlab_core::{Status, axlab};
-use lab_ports::{MemoryFile, MemoryLibrary, MemorySink};
+use lab_ports::{MemoryFile, MemoryLibrary, MemorySink, Sink};
 use lookup_player::LookupPlayer;
 use machine_player::MachinePlayer;
 use memory_player::MemoryPlayer;
@@ -73,6 +73,21 @@ fn advances(bench: &Bench) -> u64 {
 
 /// Runs the program on the words, which are cut at spaces, on a bench like main's.
 pub(crate) fn run(alloc: Global, line: &str, around: Around<'_>) -> Result<Ran, Fail> {
+    let mut out = MemorySink::new(alloc, around.room, numbers(alloc, around.failing_write)?)?;
+    let ran = run_into(alloc, line, around, &mut out)?;
+    Ok(Ran {
+        out: out.bytes,
+        ..ran
+    })
+}
+
+/// The same with another output; what is said of the output is empty.
+pub(crate) fn run_into<O: Sink>(
+    alloc: Global,
+    line: &str,
+    around: Around<'_>,
+    out: &mut O,
+) -> Result<Ran, Fail> {
     let mut words = Vec::new(alloc);
     for word in line.split_whitespace() {
         words.push(String::from_str(alloc, word)?)?;
@@ -82,7 +97,6 @@ pub(crate) fn run(alloc: Global, line: &str, around: Around<'_>) -> Result<Ran, 
     files.push(held(alloc, "echo.csv", ECHO.as_bytes())?)?;
     files.push(held(alloc, "machine.csv", around.machine.as_bytes())?)?;
     let mut library = MemoryLibrary::new(files, numbers(alloc, around.failing_read)?);
-    let mut out = MemorySink::new(alloc, around.room, numbers(alloc, around.failing_write)?)?;
     let mut err = MemorySink::new(alloc, 1000, Vec::new(alloc))?;
     let mut left: Side = Vec::new(alloc);
     let mut right: Side = Vec::new(alloc);
@@ -101,10 +115,10 @@ pub(crate) fn run(alloc: Global, line: &str, around: Around<'_>) -> Result<Ran, 
         return Err(Fail::from("the bench doesn't fit"));
     }
     let before = advances(&bench);
-    let status = axlab(alloc, &words, &mut library, &mut out, &mut err, &mut bench);
+    let status = axlab(alloc, &words, &mut library, out, &mut err, &mut bench);
     Ok(Ran {
         status,
-        out: out.bytes,
+        out: Vec::new(alloc),
         err: err.bytes,
         calls: library.calls,
         advances: advances(&bench).saturating_sub(before),

@@ -154,10 +154,10 @@ right = "plug" -> # => 4 MissingKey match right
 right = "plug" -> right = ["plug"] => 5 WrongType match right
 right = "plug" -> right = "plugs" => 14 UnknownEntry match right
 right = "plug" -> right = "table" => played
-turns = 6 -> turns = 1_000_000_000_000 => 15 TooManyTurns
-turns = 6 -> turns = 1_000_001 => 15 TooManyTurns
+turns = 6 -> turns = 1_000_000_000_000 => played
+turns = 6 -> turns = 1_000_000_000_001 => 6 OutOfRange match turns
 n = 0 -> n = 1 & turns = 6 -> turns = 10_001 => 15 TooManyTurns
-turns = 6 -> turns = 6; [tournament] => 23 NotBuilt
+turns = 6 -> turns = 6; [tournament] => 4 MissingKey tournament turns
 turns = 6 -> turns = 6; [[rota]] => 23 NotBuilt
 version = 1 -> version = 1; board = 0 => 23 NotBuilt
 turns = 6 -> turns = 6; [moran] => 23 NotBuilt

@@ -9,10 +9,12 @@ mod call;
 #[cfg(test)]
 mod hostile;
 #[cfg(test)]
+mod long;
+#[cfg(test)]
 mod machine_files;
 #[cfg(test)]
 mod mixed;
 #[cfg(test)]
-mod reading_back;
-#[cfg(test)]
 mod rows;
+#[cfg(test)]
+mod tournaments;

@@ -4,7 +4,6 @@ ghost use Rattle.std.specs.Prelude.{◌≡◌, IfOk};
 
 use crate::call::{calm, run};
 use crate::hostile::check;
-use crate::reading_back::score;
 use axlab_core::Status;
 use history_model::{Game, Grid, GridRow, NoMemory, Noise, WholePair, play_all};
 use std::alloc::Global;
@@ -145,9 +144,21 @@ fn report(
     Ok(String::from_str(alloc, std::str::from_utf8(&ran.out)?)?)
 }
 
+// Points with twelve decimals, in units of the last one.
+fn units(text: &str) -> Option<u128> {
+    let (points, decimals) = text.split_once('.')?;
+    if decimals.len() != 12 {
+        return None;
+    }
+    let points = points.parse::<u128>().ok()?;
+    let units = points.checked_mul(1_000_000_000_000)?;
+    units.checked_add(decimals.parse::<u128>().ok()?)
+}
+
 // Whether a score holds a fraction of points, and is at most two units wide.
 fn holds(text: &str, numerator: u128, denominator: u128) -> Option<bool> {
-    let (lo, hi) = score(text)?;
+    let (lo, hi) = text.split_once("..").unwrap_or((text, text));
+    let (lo, hi) = (units(lo)?, units(hi)?);
     let exact = numerator.checked_mul(1_000_000_000_000)?;
     let is_below = lo.checked_mul(denominator)? <= exact;
     let is_above = exact <= hi.checked_mul(denominator)?;

@@ -113,10 +113,10 @@ fn tells_the_cause_of_each_other_status(rt: HostRuntime) -> Result<(), Fail> {
         ("-v lab", Status::Usage, USAGE, 0),
         ("match lab -x", Status::Usage, USAGE, 0),
         ("match lab lab", Status::Usage, USAGE, 0),
-        ("drill 7", Status::Usage, USAGE, 0),
+        ("drill 07", Status::Usage, USAGE, 0),
         ("relation lab", Status::Usage, USAGE, 0),
         (
-            "tournament lab",
+            "rota lab",
             Status::Refused(Refusal::NotBuilt),
             "axlab: refused 23 NotBuilt\n",
             0,

@@ -1,9 +1,9 @@
 -- Each plug of a lab that is read over notes has its note.
-use Rattle.std.proofs.Common.{codes, ◌&&◌, ◌^◌, max, map, nat_le, nat_lt, ◌≡◌, ℕ, zero, suc, ◌+◌, Bool, true, false, List, [], ◌∷◌, ◌++◌, length, bytes_eq, Option, Some, None, Result, Ok, Err, if◌then◌else◌, refl, subst, inl, inr, arith}
+use Rattle.std.proofs.Common.{codes, ◌&&◌, ◌^◌, max, map, nat_le, nat_lt, ◌≡◌, ℕ, ◌+◌, Bool, true, false, List, [], ◌∷◌, ◌++◌, length, bytes_eq, Option, Some, None, Result, Ok, Err, if◌then◌else◌, refl, subst, inl, inr}
 use Rattle.std.proofs.lemmas.Bool.{cases_Bool}
 use Rattle.std.proofs.Math.Bool.{or-true}
 use Rattle.std.specs.List.{list_all}
-use Rattle.std.proofs.lemmas.List.Elements.{All-nil, All-push, All-set}
+use Rattle.std.proofs.lemmas.List.Elements.{All-nil, All-push}
 use Rattle.std.proofs.lemmas.Slice.Eq.{bytes_eq-Decides}
 use Rattle.toml.specs.Data.{Data, Members, Items, no_items, item}
 use Rattle.history_model.specs.declared.moves.Move.{Move}
@@ -27,8 +27,8 @@ use Rattle.strategy_file.specs.TomlRows.{last_state, move_of, rows_in}
 use Rattle.game_file.specs.GameOf.{game_of}
 use Rattle.strategy_file.specs.SheetOf.{at, vector_of, machine_in_lab, machine_in_file, machine_from, machine_of, table_weights, table_of, plug_named, plug_of, ready, draft_of_kind, draft_of}
 use Rattle.lab_file.specs.declared.lab.Entry.{Entry}
-use Rattle.lab_file.specs.Attached.{attached, draft_with}
-use Rattle.lab_file.specs.Lab.{LabData, entry_at}
+use Rattle.lab_file.specs.Attached.{draft_with}
+use Rattle.lab_file.specs.Lab.{LabData}
 use Rattle.lab_file.specs.LabOf.{top, version_at, new_name, entry_of, are_tables, entries_from, entries_of, entries_at, jobs_of, longest_file, reading, lab_in, lab_of}
 use Rattle.lab_file.specs.Notes.{has_note, IsNoted, IsNotedDraft, AreNoted, LabsAreNoted}
 

@@ -1,5 +1,5 @@
 -- A lab: the game, the entries and the jobs that a lab file stands for.
-use Rattle.std.specs.Prelude.{ℕ, ◌≢◌, ◌<◌, ◌≤◌, ◌^◌, List, [], length, slice_index_or, IfSome}
+use Rattle.std.specs.Prelude.{ℕ, ◌≡◌, ◌≢◌, ◌<◌, ◌≤◌, ◌^◌, false, List, [], length, slice_index_or, All, AllPairs, IfSome}
 use Rattle.history_model.specs.declared.moves.Move.TheVariants.{C}
 use Rattle.history_model.specs.Game.{Payoffs}
 use Rattle.history_model.specs.Noise.{FlipRate, no_noise}
@@ -7,6 +7,9 @@ use Rattle.strategy_file.specs.declared.draft.Draft.TheVariants.{FromFile}
 use Rattle.lab_file.specs.declared.lab.Entry.{Entry}
 use Rattle.lab_file.specs.declared.jobs.Jobs.{Jobs}
 use Rattle.lab_file.specs.declared.jobs.MatchJob.{MatchJob}
+use Rattle.lab_file.specs.declared.tournament.Edge.{Edge}
+use Rattle.lab_file.specs.declared.tournament.TournamentJob.{TournamentJob}
+use Rattle.lab_file.specs.Tournament.{joins}
 
 -- the game is the one of the file with the offset added to each payoff
 pub record LabData : Type 0 where
@@ -41,9 +44,23 @@ pub record IsMatchJob (count : ℕ) (job : MatchJob) : Type 0 where
   pub some_turns : 1 ≤ job.turns
   pub few_turns : job.turns ≤ 10 ^ 12
 
+-- edges between so many entries: none joins an entry with itself, or the two of an earlier one
+pub record AreEdges (count : ℕ) (edges : List Edge) : Type 0 where
+  pub left : All (λ (edge : Edge). edge.left < count) edges
+  pub right : All (λ (edge : Edge). edge.right < count) edges
+  pub apart : All (λ (edge : Edge). edge.left ≢ edge.right) edges
+  pub differ : AllPairs (λ (edge later : Edge). joins later.left later.right edge ≡ false) edges
+
+-- a tournament of so many entries, of 1 to 10^12 turns a match
+pub record IsTournamentJob (count : ℕ) (job : TournamentJob) : Type 0 where
+  pub some_turns : 1 ≤ job.turns
+  pub few_turns : job.turns ≤ 10 ^ 12
+  pub edges : IfSome job.edges (AreEdges count)
+
 -- each job is one of so many entries
-abbrev pub AreJobs : ℕ → Jobs → Type 0
-AreJobs count jobs = IfSome jobs.match_job (IsMatchJob count)
+pub record AreJobs (count : ℕ) (jobs : Jobs) : Type 0 where
+  pub match_job : IfSome jobs.match_job (IsMatchJob count)
+  pub tournament_job : IfSome jobs.tournament_job (IsTournamentJob count)
 
 pub record IsLab (lab : LabData) : Type 0 where
   pub entries : AreEntries lab.entries

@@ -1,22 +1,23 @@
 //! The jobs of a lab.
 ghost use Rattle.std.specs.Prelude.{◌≡◌, ◌<◌, ◌≤◌, length, option_map, IfOk, IfSome};
 ghost use Rattle.toml.specs.View.{table_view};
-ghost use Rattle.lab_keys.specs.Refusing.{seen_by};
+ghost use Rattle.lab_keys.specs.Refusing.{Gives, seen_by};
 ghost use Rattle.lab_file.specs.Lab.{AreJobs, IsMatchJob};
-ghost use Rattle.lab_file.specs.LabOf.{top, place_of, place_at, match_of, match_at, has_unbuilt, jobs_of};
+ghost use Rattle.lab_file.specs.LabOf.{top, place_of, place_named, place_at, match_of, match_at, has_unbuilt, jobs_of};
 
-use crate::places::{in_match, top};
+use crate::places::{in_job, top};
+use crate::tournament::{TournamentJob, tournament_at};
 use crate::{Entries, Entry};
 use lab_keys::{found_at, optional_table_at, text_at, whole_at};
-use lab_ports::{KeyName, Place, Refusal};
+use lab_ports::{FileError, KeyName, Place, Refusal, TableName};
+use std::alloc::Global;
 use toml::Table;
 
-// The most turns that the key of a job may give.
-const MOST_TURNS: u64 = 1_000_000_000_000;
+/// The most turns that the key of a job may give.
+pub const MOST_TURNS: u64 = 1_000_000_000_000;
 
 // The tables of the jobs that aren't built.
-const UNBUILT: [KeyName; 7] = [
-    KeyName::Tournament,
+const UNBUILT: [KeyName; 6] = [
     KeyName::Rota,
     KeyName::Board,
     KeyName::Moran,
@@ -37,10 +38,12 @@ pub struct MatchJob {
 }
 
 /// The jobs of a lab: those whose tables stand in the file.
-#[derive(Clone, Copy, Debug, PartialEq, Eq)]
+#[derive(Drop)]
 pub struct Jobs {
     /// The table `match`.
     pub match_job: Option<MatchJob>,
+    /// The table `tournament`.
+    pub tournament_job: Option<TournamentJob>,
 }
 
 /// The place of the first entry of a name.
@@ -58,6 +61,19 @@ fn place_at(entries: &Entries, place: Place, job: &Table) -> Result<u32, Refusal
     ensures within { IfOk result (λ k. k < length entries.now) }
 {
     let name = text_at(job, place)?;
+    place_named(entries, place, name)
+}
+
+/// The place of the entry of this name, which stands at a key of a job.
+///
+/// # Errors
+///
+/// `UnknownEntry` where no entry has it.
+pub fn place_named(entries: &Entries, place: Place, name: &str) -> Result<u32, Refusal>
+    requires { length entries.now ≤ 64 }
+    ensures place { result ≡ place_named entries.now place name.now }
+    ensures within { IfOk result (λ k. k < length entries.now) }
+{
     match place_of(entries.as_slice(), name.as_bytes()) {
         Some(k) => Ok(k as u32),
         None => Err(Refusal::UnknownEntry(place)),
@@ -70,9 +86,9 @@ fn match_of(entries: &Entries, job: &Table) -> Result<MatchJob, Refusal>
     ensures job { result ≡ match_of entries.now (table_view job.now) }
     ensures sound { IfOk result (IsMatchJob (length entries.now)) }
 {
-    let left = place_at(entries, in_match(KeyName::Left), job)?;
-    let right = place_at(entries, in_match(KeyName::Right), job)?;
-    let turns = whole_at(job, in_match(KeyName::Turns), 1, MOST_TURNS)?;
+    let left = place_at(entries, in_job(TableName::Match, KeyName::Left), job)?;
+    let right = place_at(entries, in_job(TableName::Match, KeyName::Right), job)?;
+    let turns = whole_at(job, in_job(TableName::Match, KeyName::Turns), 1, MOST_TURNS)?;
     Ok(MatchJob { left, right, turns })
 }
 
@@ -104,16 +120,21 @@ fn has_unbuilt(tree: &Table) -> bool
 ///
 /// # Errors
 ///
-/// The first wrong key; and `NotBuilt` at the first job that isn't built.
+/// The first wrong key; then `NotBuilt` where a table of a job that isn't built stands; and
+/// `NoMemory`.
 #[tactic(auto, unfolding(crate::specs::LabOf::jobs_of))]
-pub fn jobs_of(entries: &Entries, tree: &Table) -> Result<Jobs, Refusal>
+pub fn jobs_of(alloc: Global, entries: &Entries, tree: &Table) -> Result<Jobs, FileError>
     requires { length entries.now ≤ 64 }
-    ensures jobs { result ≡ jobs_of entries.now (table_view tree.now) }
+    ensures jobs { Gives (λ jobs. jobs) result (jobs_of entries.now (table_view tree.now)) }
     ensures sound { IfOk result (AreJobs (length entries.now)) }
 {
     let match_job = match_at(entries, tree)?;
+    let tournament_job = tournament_at(alloc, entries, tree)?;
     if has_unbuilt(tree) {
-        return Err(Refusal::NotBuilt);
+        return Err(FileError::Refused(Refusal::NotBuilt));
     }
-    Ok(Jobs { match_job })
+    Ok(Jobs {
+        match_job,
+        tournament_job,
+    })
 }

@@ -45,13 +45,6 @@ impl Entries {
         Entries { items }
     }
 
-    /// The list back.
-    pub fn into_vec(self) -> Vec<Entry>
-        ensures { result.items ≡ self }
-    {
-        self.items
-    }
-
     /// The number of entries.
     pub fn len(&self) -> usize
         ensures { result ≡ length self.now }

@@ -1,5 +1,7 @@
 //! Laws, proved once: a caller has one by calling its function, which does nothing.
+ghost use Rattle.lab_file.specs.Limits.{MatchesAreKept};
 ghost use Rattle.lab_file.specs.Notes.{LabsAreNoted, NotesTell};
+ghost use Rattle.lab_file.specs.Tournament.{TournamentsAscend};
 
 use player_core::laws::sure_is_tested;
 
@@ -13,4 +15,14 @@ pub fn notes_tell()
 /// Each plug of a lab that is read over notes has its note.
 pub fn labs_are_noted()
     ensures { LabsAreNoted }
+{}
+
+/// The matches of a tournament ascend, and are each pair that is played.
+pub fn tournaments_ascend()
+    ensures { TournamentsAscend }
+{}
+
+/// A tournament that keeps the limits has no match that alone doesn't.
+pub fn matches_are_kept()
+    ensures { MatchesAreKept }
 {}

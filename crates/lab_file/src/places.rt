@@ -1,7 +1,7 @@
 //! Places of keys.
 ghost use Rattle.std.specs.Prelude.{◌≡◌};
 ghost use Rattle.strategy_file.specs.SheetOf.{at};
-ghost use Rattle.lab_file.specs.LabOf.{top, in_match};
+ghost use Rattle.lab_file.specs.LabOf.{top};
 
 use lab_ports::{KeyName, Place, TableName};
 
@@ -27,12 +27,12 @@ pub fn in_entry(entry: u32, key: KeyName) -> Place
     }
 }
 
-/// A key of the match.
-pub fn in_match(key: KeyName) -> Place
-    ensures { result ≡ in_match key }
+/// A key of the table of a job.
+pub fn in_job(table: TableName, key: KeyName) -> Place
+    ensures { result ≡ record { table = table; entry = 0; key = key } }
 {
     Place {
-        table: TableName::Match,
+        table,
         entry: 0,
         key,
     }

@@ -38,7 +38,7 @@ fn lab_in(alloc: Global, tree: &Table, notes: &Vec<PlugNote>) -> Result<Lab, Fil
     let version = version_at(tree)?;
     let (game, offset, noise) = read_game(tree, version)?;
     let entries = entries_at(alloc, tree, notes, noise)?;
-    let jobs = jobs_of(&entries, tree)?;
+    let jobs = jobs_of(alloc, &entries, tree)?;
     Ok(Lab {
         version,
         offset,

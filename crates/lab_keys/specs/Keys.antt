@@ -1,6 +1,7 @@
 -- What stands at a key of a table of the lab file: the value, or why the file is refused. A key that must be there is
 -- tested in the order absent, of another type, out of range.
-use Rattle.std.specs.Prelude.{ℕ, ℤ, pos, negsuc, ◌+◌, ◌==◌, ◌&&◌, Bool, true, nat_le, is_some, List, [], ◌∷◌, Option, Some, None, option_map, option_and_then, Result, Ok, Err, if◌then◌else◌}
+use Rattle.std.specs.Prelude.{ℕ, ℤ, pos, negsuc, ◌+◌, ◌==◌, ◌&&◌, Bool, true, false, nat_le, is_some, List, [], ◌∷◌, Option, Some, None, option_map, option_and_then, Result, Ok, Err, if◌then◌else◌}
+use Rattle.std.specs.Option.{option_map_or}
 use Rattle.toml.specs.Data.{Data, Members, Items, no_items, item, get_member, as_integer, as_str, as_bool, as_array, as_table}
 use Rattle.lab_ports.specs.declared.place.Place.{Place}
 use Rattle.lab_ports.specs.declared.refusal.Refusal.{Refusal}
@@ -64,6 +65,37 @@ wholes_in place count high items =
 abbrev pub wholes_of : Place → ℕ → ℕ → Data → Result (List ℕ) Refusal
 wholes_of place count high found = array_of place found >>= wholes_in place count high
 
+-- every item is a text
+abbrev pub are_texts : Items → Bool
+are_texts no_items = true
+are_texts (item found rest) = is_some (as_str found) && are_texts rest
+
+-- every item is a list of texts
+abbrev pub are_text_lists : Items → Bool
+are_text_lists no_items = true
+are_text_lists (item found rest) = option_map_or are_texts (as_array found) false && are_text_lists rest
+
+-- a list of two
+abbrev pub is_pair : Data → Bool
+is_pair found = option_map_or (λ items. item_count items == 2) (as_array found) false
+
+-- every item is a list of two
+abbrev pub are_pairs : Items → Bool
+are_pairs no_items = true
+are_pairs (item found rest) = is_pair found && are_pairs rest
+
+-- lists of two texts; the types of all are tested before the lengths
+abbrev pub pairs_in : Place → Items → Result Items Refusal
+pairs_in place items = if are_text_lists items then (if are_pairs items then Ok items else Err (OutOfRange place)) else Err (WrongType place)
+
+-- the two texts of a list
+abbrev pub pair_in : Place → Items → Result (List ℕ × List ℕ) Refusal
+pair_in place (item left (item right no_items)) = text_of place left >>= λ first. text_of place right >>= λ second. Ok (first, second)
+pair_in place _ = Err (OutOfRange place)
+
+abbrev pub pair_of : Place → Data → Result (List ℕ × List ℕ) Refusal
+pair_of place found = array_of place found >>= pair_in place
+
 -- the same at a key that must be there
 abbrev pub text_at : Place → Members → Result (List ℕ) Refusal
 text_at place tree = value_at place tree >>= text_of place
@@ -95,3 +127,11 @@ table_if place (Some found) = table_of place found >>= λ table. Ok (Some table)
 
 abbrev pub optional_table_at : Place → Members → Result (Option Members) Refusal
 optional_table_at place tree = table_if place (found_at place tree)
+
+-- the lists of two texts, or none where the key is absent
+abbrev pub pairs_if : Place → Option Data → Result (Option Items) Refusal
+pairs_if place None = Ok None
+pairs_if place (Some found) = array_of place found >>= λ items. pairs_in place items >>= λ pairs. Ok (Some pairs)
+
+abbrev pub optional_pairs_at : Place → Members → Result (Option Items) Refusal
+optional_pairs_at place tree = pairs_if place (found_at place tree)

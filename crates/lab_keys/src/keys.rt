@@ -3,9 +3,9 @@ ghost use Rattle.std.specs.Prelude.{◌≡◌, ℕ, ◌≤◌, ◌<◌, length, 
 ghost use Rattle.toml.specs.Data.{get_member};
 ghost use Rattle.toml.specs.View.{view, table_view, array_view};
 ghost use Rattle.lab_keys.specs.Refusing.{Gives, seen_by};
-ghost use Rattle.lab_keys.specs.Keys.{found_at, value_at, text_at, array_at, table_at, whole_at, wholes_at, truth_at, optional_table_at};
+ghost use Rattle.lab_keys.specs.Keys.{found_at, value_at, text_at, array_at, table_at, whole_at, wholes_at, truth_at, optional_table_at, optional_pairs_at};
 
-use crate::values::{array_of, table_of, text_of, truth_of, whole_of, wholes_of};
+use crate::values::{array_of, pairs_in, table_of, text_of, truth_of, whole_of, wholes_of};
 use lab_ports::{FileError, Place, Refusal};
 use std::alloc::Global;
 use toml::value::Array;
@@ -136,6 +136,24 @@ pub fn optional_table_at(table: &Table, place: Place) -> Result<Option<&Table>, 
         Some(value) => {
             let inner = table_of(value, place)?;
             Ok(Some(inner))
+        }
+        None => Ok(None),
+    }
+}
+
+/// The lists of two texts in an array at a key that may be absent.
+///
+/// # Errors
+///
+/// `WrongType`, also where an element is no list of texts; then `OutOfRange` where a list has not two.
+pub fn optional_pairs_at(table: &Table, place: Place) -> Result<Option<&Array>, Refusal>
+    ensures { seen_by (λ pairs. option_map (λ found. array_view found.now) pairs) result ≡ optional_pairs_at place (table_view table.now) }
+{
+    match found_at(table, place) {
+        Some(value) => {
+            let array = array_of(value, place)?;
+            let pairs = pairs_in(array, place)?;
+            Ok(Some(pairs))
         }
         None => Ok(None),
     }

@@ -1,5 +1,8 @@
 //! Keys of one table against values worked out by hand.
-use crate::{array_at, optional_table_at, table_at, text_at, truth_at, whole_at, wholes_at};
+use crate::{
+    array_at, optional_pairs_at, optional_table_at, pair_of, table_at, text_at, truth_at, whole_at,
+    wholes_at,
+};
 use lab_ports::{FileError, KeyName, Place, Refusal, TableName};
 use std::test::Fail;
 
@@ -39,6 +42,10 @@ rows = [0, -1]
 slices = []
 game = { r = 3 }
 noise = "none"
+edges = [["a", "b"], ["c", "c"]]
+pairs = [["a"], ["b", 7]]
+left = [["a", "b", "c"]]
+right = [["a"], "c"]
 "#;
 
 // The numbers, or the refusal; `None` without memory.
@@ -108,6 +115,39 @@ fn reads_lists(rt: HostRuntime) -> Result<(), Fail> {
     ] {
         let found = told(wholes_at(rt.alloc(), &tree, place(key), count, 15));
         assert!(rt; found.is_err_and(|error| error == Some(want)), "at {key:?}");
+    }
+    Ok(())
+}
+
+#[test]
+fn reads_pairs(rt: HostRuntime) -> Result<(), Fail> {
+    let tree = toml::table_from_str(rt.alloc(), TEXT).map_err(|_| "no table")?;
+    let edges = place(KeyName::Edges);
+    let Ok(Some(found)) = optional_pairs_at(&tree, edges) else {
+        return Err(Fail::from("no pairs"));
+    };
+    let mut pairs = Vec::new(rt.alloc());
+    for value in found {
+        pairs.push(pair_of(value, edges))?;
+    }
+    assert_eq!(rt;
+        pairs.as_slice(),
+        [Ok(("a", "b")), Ok(("c", "c"))].as_slice()
+    );
+    for (key, want) in [
+        (KeyName::Slices, Ok(Some(0))),
+        (KeyName::Own, wrong(KeyName::Own)),
+        (KeyName::Pairs, wrong(KeyName::Pairs)),
+        (KeyName::Left, out(KeyName::Left)),
+        (KeyName::Right, wrong(KeyName::Right)),
+        (KeyName::Plug, Ok(None)),
+    ] {
+        let got = match optional_pairs_at(&tree, place(key)) {
+            Ok(Some(found)) => Ok(Some(found.len())),
+            Ok(None) => Ok(None),
+            Err(refusal) => Err(refusal),
+        };
+        assert_eq!(rt; got, want, "at {key:?}");
     }
     Ok(())
 }

@@ -2,7 +2,7 @@
 ghost use Rattle.std.specs.Prelude.{◌≡◌, ℕ, ◌≤◌, ◌<◌, length, slice_index, option_map, IfOk, IfSome};
 ghost use Rattle.toml.specs.View.{view, table_view, array_view};
 ghost use Rattle.lab_keys.specs.Refusing.{Gives, seen_by};
-ghost use Rattle.lab_keys.specs.Keys.{text_of, truth_of, array_of, table_of, whole_of, in_range, are_whole, number_within, numbers_within, wholes_in, wholes_of};
+ghost use Rattle.lab_keys.specs.Keys.{text_of, truth_of, array_of, table_of, whole_of, in_range, are_whole, number_within, numbers_within, wholes_in, wholes_of, are_texts, are_text_lists, is_pair, are_pairs, pairs_in, pair_in, pair_of};
 
 use lab_ports::{FileError, Place, Refusal};
 use std::alloc::{AllocError, Global};
@@ -180,5 +180,99 @@ pub fn wholes_of(
     match array_of(value, place) {
         Ok(array) => wholes_in(alloc, array, place, count, high),
         Err(refusal) => Err(FileError::Refused(refusal)),
+    }
+}
+
+fn are_texts(array: &Array) -> bool
+    ensures { result ≡ are_texts (array_view array.now) }
+{
+    for value in array {
+        if value.as_str().is_none() {
+            return false;
+        }
+    }
+    true
+}
+
+fn are_text_lists(array: &Array) -> bool
+    ensures { result ≡ are_text_lists (array_view array.now) }
+{
+    for value in array {
+        match value.as_array() {
+            Some(list) => {
+                if !are_texts(list) {
+                    return false;
+                }
+            }
+            None => return false,
+        }
+    }
+    true
+}
+
+// A list of two.
+#[tactic(auto, using(crate::proofs::Counting::counted))]
+fn is_pair(value: &Value) -> bool
+    ensures { result ≡ is_pair (view value.now) }
+{
+    match value.as_array() {
+        Some(list) => list.len() == 2,
+        None => false,
+    }
+}
+
+fn are_pairs(array: &Array) -> bool
+    ensures { result ≡ are_pairs (array_view array.now) }
+{
+    for value in array {
+        if !is_pair(value) {
+            return false;
+        }
+    }
+    true
+}
+
+/// The array, where each element is a list of two texts.
+///
+/// # Errors
+///
+/// `WrongType` where an element is no list of texts; then `OutOfRange` where a list has not two.
+pub fn pairs_in(array: &Array, place: Place) -> Result<&Array, Refusal>
+    ensures { seen_by (λ pairs. array_view pairs.now) result ≡ pairs_in place (array_view array.now) }
+{
+    if !are_text_lists(array) {
+        return Err(Refusal::WrongType(place));
+    }
+    if !are_pairs(array) {
+        return Err(Refusal::OutOfRange(place));
+    }
+    Ok(array)
+}
+
+// The two texts of a list.
+#[tactic(auto, using(crate::proofs::Pairs::both, crate::proofs::Pairs::not_two))]
+fn pair_in(array: &Array, place: Place) -> Result<(&str, &str), Refusal>
+    ensures { seen_by (λ pair. (pair.0.now, pair.1.now)) result ≡ pair_in place (array_view array.now) }
+{
+    if array.len() != 2 {
+        return Err(Refusal::OutOfRange(place));
+    }
+    let left = text_of(&array[0], place)?;
+    let right = text_of(&array[1], place)?;
+    Ok((left, right))
+}
+
+/// The two texts of the list that a value is.
+///
+/// # Errors
+///
+/// `WrongType` where the value is no list, `OutOfRange` where it has not two elements, and `WrongType`
+/// where one of them is no text.
+pub fn pair_of(value: &Value, place: Place) -> Result<(&str, &str), Refusal>
+    ensures { seen_by (λ pair. (pair.0.now, pair.1.now)) result ≡ pair_of place (view value.now) }
+{
+    match array_of(value, place) {
+        Ok(array) => pair_in(array, place),
+        Err(refusal) => Err(refusal),
     }
 }

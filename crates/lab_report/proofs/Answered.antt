@@ -40,7 +40,7 @@ is_found l bytes r first e =
     let x = (l.reading grammar line_of (exact l.lines) states.Start (whole r) bytes).0 e in
     let a = run_adds x.lines states.Start (whole r) tt x.run_is in
     let same : x.lines ≡ lines_of r = sym a.1 in (
-      record { version = first.version; offset = first.offset; game = a.0.0; noise = a.0.1; noises = first.noises; are_names = a.0.2.are_names; shown = a.0.2.shown; body = a.0.2.holds },
+      record { version = first.version; offset = first.offset; game = a.0.0; noise = a.0.1; noises = first.noises; fixed = a.0.3; are_names = a.0.2.are_names; shown = a.0.2.shown; body = a.0.2.holds },
       x.text_is ∙ ap (text_of grammar) same ∙ same_text (lines_of r),
     )
 

@@ -15,7 +15,7 @@ use Rattle.fixed_span.specs.Span.{Ends, point, score_units}
 use Rattle.match_play.specs.declared.line.MatchLine.{MatchLine}
 use Rattle.report_lines.specs.declared.line.ShownMatch.{ShownMatch}
 use Rattle.report_lines.specs.Texts.{is_payoff, are_payoffs, is_noise, is_turns, is_score, counts_are, is_match}
-use Rattle.lab_report.specs.Grammar.{is_paid, pays}
+use Rattle.lab_report.specs.MatchRules.{is_paid, pays}
 use Rattle.lab_report.specs.Names.{name_at}
 use Rattle.lab_report.specs.Text.{shown_match}
 use Rattle.lab_report.specs.Valid.{IsScore, IsCounted, IsMatchOf}
@@ -24,13 +24,13 @@ pub both_true : (a b : Bool) → (a && b) ≡ true → (a ≡ true) × (b ≡ tr
 both_true true b e = (refl, e)
 both_true false b e = absurd cc
 
-leb_is : (a b : ℕ) → leb a b ≡ true → a ≤ b
+pub leb_is : (a b : ℕ) → leb a b ≡ true → a ≤ b
 leb_is a b h = grind (arith, nat_tests)
 
-int_le_is : (a b : ℤ) → int_le a b ≡ true → a ≤ℤ b
+pub int_le_is : (a b : ℤ) → int_le a b ≡ true → a ≤ℤ b
 int_le_is a b h = grind (arith, ints)
 
-score_is : (score : Ends) → is_score score ≡ true → IsScore score
+pub score_is : (score : Ends) → is_score score ≡ true → IsScore score
 score_is score h =
     let a = both_true (int_le (pos 0) score.lo) (int_le score.lo score.hi && int_le score.hi (pos (10 ^ 33))) h in
     let b = both_true (int_le score.lo score.hi) (int_le score.hi (pos (10 ^ 33))) a.1 in
@@ -79,7 +79,7 @@ noise_is noise h =
     let b = both_true (leb 1 noise.e) (leb noise.e 1000) a.0 in
     record { some = leb_is 1 noise.e b.0; few = leb_is noise.e 1000 b.1; half = leb_is (2 * noise.n) noise.e a.1 }
 
-abbrev ends : ℤ → ℤ → Ends
+abbrev pub ends : ℤ → ℤ → Ends
 ends lo hi = record { lo = lo; hi = hi }
 
 paid_is : (score : Ends) (points : ℕ) → is_paid score points ≡ true → score ≡ point (pos (points * score_units))
@@ -98,13 +98,13 @@ counted game line (Some tally) h paid =
 
 -- ---- the way back
 
-both_back : (a b : Bool) → a ≡ true → b ≡ true → (a && b) ≡ true
+pub both_back : (a b : Bool) → a ≡ true → b ≡ true → (a && b) ≡ true
 both_back a b h k = rw (h, k) refl
 
-leb_back : (a b : ℕ) → a ≤ b → leb a b ≡ true
+pub leb_back : (a b : ℕ) → a ≤ b → leb a b ≡ true
 leb_back a b h = grind (arith, nat_tests)
 
-int_le_back : (a b : ℤ) → a ≤ℤ b → int_le a b ≡ true
+pub int_le_back : (a b : ℤ) → a ≤ℤ b → int_le a b ≡ true
 int_le_back a b h = grind (arith, ints)
 
 pub game_back : (game : Payoffs) → IsGame game → are_payoffs game ≡ true
@@ -113,7 +113,7 @@ game_back game h = rw (leb_back game.r 1000000 h.reward, leb_back game.s 1000000
 pub noise_back : (noise : FlipRate) → IsFlipRate noise → is_noise noise ≡ true
 noise_back noise h = rw (leb_back 1 noise.e h.some, leb_back noise.e 1000 h.few, leb_back (2 * noise.n) noise.e h.half) refl
 
-score_back : (score : Ends) → IsScore score → is_score score ≡ true
+pub score_back : (score : Ends) → IsScore score → is_score score ≡ true
 score_back score h = rw (int_le_back (pos 0) score.lo h.low, int_le_back score.lo score.hi h.ordered, int_le_back score.hi (pos (10 ^ 33)) h.high) refl
 
 paid_back : (score : Ends) (points : ℕ) → score ≡ point (pos (points * score_units)) → is_paid score points ≡ true
@@ -132,7 +132,7 @@ paid_if game line (Some tally) h =
 pub pays_back : (game : Payoffs) (line : MatchLine) → IfSome line.tally (IsCounted game line) → pays game line.left_score line.right_score line.tally ≡ true
 pays_back game line h = paid_if game line line.tally h
 
-same_number : (n : ℕ) → eqb n n ≡ true
+pub same_number : (n : ℕ) → eqb n n ≡ true
 same_number n = grind (arith, nat_tests)
 
 counts_if : (game : Payoffs) (line : MatchLine) (tally : Option Tally) → IfSome tally (IsCounted game line) → counts_are line.turns tally ≡ true

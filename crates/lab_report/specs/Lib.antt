@@ -1,6 +1,12 @@
+pub mod DrillRules
 pub mod Grammar
 pub mod Made
+pub mod MatchRules
 pub mod Names
+pub mod OneWay
+pub mod Pieces
 pub mod Read
+pub mod Room
+pub mod TableRules
 pub mod Text
 pub mod Valid

@@ -1,9 +1,16 @@
 -- The lines of a report, and its text.
-use Rattle.std.specs.Prelude.{ℕ, List, [], ◌∷◌, ◌++◌}
+use Rattle.std.specs.Prelude.{ℕ, List, [], ◌∷◌, ◌++◌, map, Option, Some, None, ℤ}
+use Rattle.history_model.specs.Game.{Payoffs}
+use Rattle.history_model.specs.Noise.{FlipRate}
 use Rattle.match_play.specs.declared.line.MatchLine.{MatchLine}
+use Rattle.round_robin.specs.declared.ranking.Rank.{Rank}
+use Rattle.round_robin.specs.declared.ranking.Rank.TheVariants as ranks
+use Rattle.round_robin.specs.declared.tables.EntryLine.{EntryLine}
 use Rattle.report_lines.specs.declared.line.Kind.{Kind}
 use Rattle.report_lines.specs.declared.line.Kind.TheVariants as kinds
 use Rattle.report_lines.specs.declared.line.ShownMatch.{ShownMatch}
+use Rattle.report_lines.specs.declared.line.ShownEntry.{ShownEntry}
+use Rattle.report_lines.specs.declared.line.ShownFirst.{ShownFirst}
 use Rattle.report_lines.specs.declared.line.Line.{Line}
 use Rattle.report_lines.specs.declared.line.Line.TheVariants as lines
 use Rattle.report_lines.specs.Texts.{line_text}
@@ -15,6 +22,8 @@ use Rattle.lab_report.specs.Names.{name_at}
 -- what the first line says of a body
 abbrev pub kind_of : Body → Kind
 kind_of (bodies.Match line) = kinds.Match
+kind_of (bodies.Tournament matches who entries) = kinds.Tournament
+kind_of (bodies.Drill number first sum) = kinds.Drill
 
 -- a match with its names in place of places
 abbrev pub shown_match : List (List ℕ) → MatchLine → ShownMatch
@@ -27,14 +36,58 @@ shown_match names line = record {
   tally = line.tally;
 }
 
+-- a rank as a line shows it
+abbrev pub rank_shown : Rank → Option ℕ
+rank_shown ranks.Undecided = None
+rank_shown (ranks.At rank) = Some rank
+
+-- the line of the entry at a place, with its name
+abbrev pub shown_entry : List (List ℕ) → ℕ → EntryLine → ShownEntry
+shown_entry names place entry = record {
+  name = name_at names place;
+  total = entry.total;
+  rank = rank_shown entry.rank;
+  wins = entry.wins;
+  undecided = entry.undecided;
+}
+
+-- the lines of matches
+abbrev pub match_lines : List (List ℕ) → List MatchLine → List Line
+match_lines names matches = map (λ line. lines.Match (shown_match names line)) matches
+
+-- the lines of entries, each of the entry at its place
+abbrev pub entry_lines : List (List ℕ) → List ℕ → List EntryLine → List Line
+entry_lines names (place ∷ who) (entry ∷ entries) = lines.Entry (shown_entry names place entry) ∷ entry_lines names who entries
+entry_lines names _ _ = []
+
+-- the line of a machine of the first rank, with its name
+abbrev pub shown_first : List (List ℕ) → ℕ × ℤ → ShownFirst
+shown_first names line = record { name = name_at names line.0; total = line.1 }
+
+-- the lines of machines of the first rank
+abbrev pub first_lines : List (List ℕ) → List (ℕ × ℤ) → List Line
+first_lines names first = map (λ line. lines.First (shown_first names line)) first
+
+-- the lines of a drill behind the first
+abbrev pub drill_lines : List (List ℕ) → ℕ → List (ℕ × ℤ) → ℤ → List Line
+drill_lines names number first sum = lines.Drill number ∷ (first_lines names first ++ lines.Total sum ∷ [])
+
 -- the lines of a body, with names in place of places
 abbrev pub body_lines : List (List ℕ) → Body → List Line
 body_lines names (bodies.Match line) = lines.Match (shown_match names line) ∷ []
+body_lines names (bodies.Tournament matches who entries) = match_lines names matches ++ entry_lines names who entries
+body_lines names (bodies.Drill number first sum) = drill_lines names number first sum
+
+-- what is told of the lab behind the first line; a drill has none
+abbrev pub lab_lines : Kind → Payoffs → FlipRate → List Line
+lab_lines kinds.Match game noise = lines.Game game ∷ lines.Noise noise ∷ []
+lab_lines kinds.Tournament game noise = lines.Game game ∷ lines.Noise noise ∷ []
+lab_lines kinds.Drill game noise = []
 
 -- all lines of a report
 abbrev pub lines_of : Report → List Line
 lines_of report =
-    lines.Head (kind_of report.body) ∷ lines.Game report.game ∷ lines.Noise report.noise ∷ (body_lines report.names report.body ++ lines.End ∷ [])
+    lines.Head (kind_of report.body) ∷ (lab_lines (kind_of report.body) report.game report.noise ++ (body_lines report.names report.body ++ lines.End ∷ []))
 
 -- each line with the LF that ends it
 abbrev pub text_of_lines : List Line → List ℕ

@@ -1,12 +1,16 @@
 -- Valid reports, fact by fact.
-use Rattle.std.specs.Prelude.{ℕ, ◌≡◌, ◌*◌, ◌^◌, ◌<◌, ◌≤◌, pos, ◌≤ℤ◌, All, List, [], ◌∷◌, length, IfSome}
+use Rattle.std.specs.List.{AllPairs, AllZip, list_any}
+use Rattle.std.specs.Prelude.{ℕ, ℤ, ◌≡◌, ◌≢◌, ◌==◌, true, ◌*◌, ◌^◌, ◌<◌, ◌≤◌, pos, ◌≤ℤ◌, All, List, [], ◌∷◌, ◌++◌, length, map, IfSome}
 use Rattle.history_model.specs.declared.tally.Tally.{Tally}
 use Rattle.history_model.specs.Game.{Payoffs, IsGame}
 use Rattle.history_model.specs.Name.{IsName}
-use Rattle.history_model.specs.Noise.{IsFlipRate}
+use Rattle.history_model.specs.Noise.{FlipRate, IsFlipRate, no_noise}
 use Rattle.history_model.specs.Tally.{total, left_points, right_points}
 use Rattle.fixed_span.specs.Span.{Ends, point, score_units}
 use Rattle.match_play.specs.declared.line.MatchLine.{MatchLine}
+use Rattle.round_robin.specs.declared.tables.EntryLine.{EntryLine}
+use Rattle.round_robin.specs.Ranks.{ranks_of}
+use Rattle.round_robin.specs.Totals.{total_of, wins_of, undecided_of}
 use Rattle.lab_report.specs.declared.report.Body.{Body}
 use Rattle.lab_report.specs.declared.report.Body.TheVariants as bodies
 use Rattle.lab_report.specs.declared.report.Report.{Report}
@@ -39,13 +43,76 @@ pub record IsMatchOf (count : ℕ) (game : Payoffs) (line : MatchLine) : Type 0 
   pub right : line.right < count
   pub showable : IsShowable game line
 
+-- what is told of the entry at a place is what its matches give: the sum of its own scores, and how many matches with
+-- others it won, or left undecided
+pub record IsCountedIn (matches : List MatchLine) (place : ℕ) (entry : EntryLine) : Type 0 where
+  pub total : entry.total ≡ total_of place matches
+  pub wins : entry.wins ≡ wins_of place matches
+  pub undecided : entry.undecided ≡ undecided_of place matches
+
+-- each place below a count once
+pub record IsOnceEach (count : ℕ) (who : List ℕ) : Type 0 where
+  pub below : All (λ place. place < count) who
+  pub all : (place : ℕ) → place < count → list_any (λ other. other == place) who ≡ true
+  pub once : AllPairs (λ a b. a ≢ b) who
+
+-- matches of so many entries, and what they give each of these, whose ranks are those by all totals
+pub record IsTable (count : ℕ) (game : Payoffs) (matches : List MatchLine) (who : List ℕ) (entries : List EntryLine) : Type 0 where
+  pub few_matches : length matches ≤ 2080
+  pub some_entries : 1 ≤ length entries
+  pub few_entries : length entries ≤ 64
+  pub playable : All (IsMatchOf count game) matches
+  pub each_once : IsOnceEach count who
+  pub counted : AllZip (IsCountedIn matches) who entries
+  pub ranked : map (λ entry. entry.rank) entries ≡ ranks_of (map (λ entry. entry.total) entries)
+
+-- a score of many matches is shown from 0 to 10^37 units
+pub record IsTotal (units : ℤ) : Type 0 where
+  pub low : pos 0 ≤ℤ units
+  pub high : units ≤ℤ pos (10 ^ 37)
+
+-- one of so many machines, and its total
+pub record IsFirstOf (count : ℕ) (line : ℕ × ℤ) : Type 0 where
+  pub inside : line.0 < count
+  pub total : IsTotal line.1
+
+-- the first of 64 machines, and the sum of all totals
+pub record IsDrill (count : ℕ) (number : ℕ) (first : List (ℕ × ℤ)) (sum : ℤ) : Type 0 where
+  pub number_fits : number < 2 ^ 64
+  pub few : length first ≤ 64
+  pub machines : All (IsFirstOf count) first
+  pub sum_is : IsTotal sum
+
 -- a body with places among so many names
 abbrev pub IsBody : ℕ → Payoffs → Body → Type 0
 IsBody count game (bodies.Match line) = IsMatchOf count game line
+IsBody count game (bodies.Tournament matches who entries) = IsTable count game matches who entries
+IsBody count game (bodies.Drill number first sum) = IsDrill count number first sum
+
+-- the game of every drill
+abbrev pub drill_game : Payoffs
+drill_game = record { r = 3; s = 0; t = 5; p = 1 }
+
+-- the game and the noise of a drill are always the same, and its text doesn't show them
+abbrev pub IsFixed : Payoffs → FlipRate → Body → Type 0
+IsFixed game noise (bodies.Match line) = Unit {0}
+IsFixed game noise (bodies.Tournament matches who entries) = Unit {0}
+IsFixed game noise (bodies.Drill number first sum) = (game ≡ drill_game) × (noise ≡ no_noise)
+
+-- the names that the lines of matches show, in their order
+abbrev pub match_names : List (List ℕ) → List MatchLine → List (List ℕ)
+match_names names [] = []
+match_names names (line ∷ more) = name_at names line.left ∷ name_at names line.right ∷ match_names names more
+
+-- the names that the lines of machines show, in their order
+abbrev pub first_names : List (List ℕ) → List (ℕ × ℤ) → List (List ℕ)
+first_names names first = map (λ line. name_at names line.0) first
 
 -- the names that the lines of a body show, in their order
 abbrev pub shown_names : List (List ℕ) → Body → List (List ℕ)
 shown_names names (bodies.Match line) = name_at names line.left ∷ name_at names line.right ∷ []
+shown_names names (bodies.Tournament matches who entries) = match_names names matches ++ map (name_at names) who
+shown_names names (bodies.Drill number first sum) = first_names names first
 
 -- a report of version 1: its parts are in range, and its names are those that it shows, each once, in order of first appearance
 pub record IsValid (report : Report) : Type 0 where
@@ -54,6 +121,7 @@ pub record IsValid (report : Report) : Type 0 where
   pub game : IsGame report.game
   pub noise : IsFlipRate report.noise
   pub noises : report.noises ≡ []
+  pub fixed : IsFixed report.game report.noise report.body
   pub are_names : All IsName report.names
   pub shown : report.names ≡ with_names [] (shown_names report.names report.body)
   pub body : IsBody (length report.names) report.game report.body

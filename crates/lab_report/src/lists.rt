@@ -67,10 +67,11 @@ impl Names {
     }
 
     /// The place of a name, which comes behind the others where it is new.
-    #[tactic(auto, using(crate::proofs::Places::with_old, crate::proofs::Places::with_new, crate::proofs::Places::place_new, crate::proofs::Places::place_le))]
+    #[tactic(auto, using(crate::proofs::PlaceLaws::with_old, crate::proofs::PlaceLaws::with_new, crate::proofs::PlaceLaws::place_new, crate::proofs::PlaceLaws::place_le))]
     pub(crate) fn place(&mut self, name: &Name) -> Result<u32, AllocFailed<Name>>
         requires room { length self.old < 2 ^ 32 - 1 }
         ensures place { IfOk result (λ place. place ≡ place_in self.new name.now) }
+        ensures before { IfOk result (λ place. place ≡ place_in self.old name.now) }
         ensures names { OnOk result (self.new ≡ with_name self.old name.now) }
     {
         let place = place_in(&self.items, name);
@@ -82,8 +83,8 @@ impl Names {
     }
 }
 
-// The place of a name; behind all where it isn't one of them.
-fn place_in(names: &[Name], name: &Name) -> u32
+/// The place of a name; behind all where it isn't one of them.
+pub(crate) fn place_in(names: &[Name], name: &Name) -> u32
     requires { length names.now < 2 ^ 32 - 1 }
     ensures { result ≡ place_in names.now name.now }
 {
@@ -95,6 +96,81 @@ fn place_in(names: &[Name], name: &Name) -> u32
         place += 1;
     }
     place
+}
+
+/// Places in names, in order. Contracts see them as their list.
+#[derive(Drop)]
+pub struct Places {
+    items: Vec<u32>,
+}
+
+impl Model for Places {
+    ghost use Rattle.std.specs.Prelude.{ℕ, List};
+
+    ghost Value = { List ℕ };
+
+    ghost view = { λ s. s.items.items };
+}
+
+impl Places {
+    /// The places of this list.
+    pub fn from_vec(items: Vec<u32>) -> Places
+        ensures { result ≡ items.items }
+    {
+        Places { items }
+    }
+
+    /// The list back.
+    pub fn into_vec(self) -> Vec<u32>
+        ensures { result.items ≡ self }
+    {
+        self.items
+    }
+
+    /// The places as a slice.
+    pub fn as_slice(&self) -> &[u32]
+        ensures { result.now ≡ self.now }
+    {
+        &self.items
+    }
+}
+
+/// Machines of the first rank, by their places in names, each with its total in units of 10^-12.
+/// Contracts see them as their list.
+#[derive(Drop)]
+pub struct Leaders {
+    items: Vec<(u32, i128)>,
+}
+
+impl Model for Leaders {
+    ghost use Rattle.std.specs.Prelude.{ℕ, ℤ, List};
+
+    ghost Value = { List (ℕ × ℤ) };
+
+    ghost view = { λ s. s.items.items };
+}
+
+impl Leaders {
+    /// The machines of this list.
+    pub fn from_vec(items: Vec<(u32, i128)>) -> Leaders
+        ensures { result ≡ items.items }
+    {
+        Leaders { items }
+    }
+
+    /// The list back.
+    pub fn into_vec(self) -> Vec<(u32, i128)>
+        ensures { result.items ≡ self }
+    {
+        self.items
+    }
+
+    /// The machines as a slice.
+    pub fn as_slice(&self) -> &[(u32, i128)]
+        ensures { result.now ≡ self.now }
+    {
+        &self.items
+    }
 }
 
 /// Noises, in order. Contracts see them as their list.

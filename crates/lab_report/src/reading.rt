@@ -14,7 +14,7 @@ use crate::rules::{after, allows};
 use crate::state::State;
 use crate::{Noises, Report};
 use report_lines::{Line, line_of, lines_are_exact};
-use std::alloc::{AllocError, AllocFailed, Global};
+use std::alloc::{AllocError, Global};
 use texts::{first_line, lines_are_read_in_turn, reading_is_exact, refusal_is_exact};
 
 /// Why bytes are no report.
@@ -35,10 +35,10 @@ impl From<AllocError> for ReportError {
     }
 }
 
-impl<T: Drop> From<AllocFailed<T>> for ReportError {
+impl From<history_model::NoMemory> for ReportError {
     ghost from_gives = { λ _ error. error ≡ NoMemory };
 
-    fn from(_: AllocFailed<T>) -> ReportError {
+    fn from(_: history_model::NoMemory) -> ReportError {
         ReportError::NoMemory
     }
 }
@@ -84,7 +84,7 @@ fn read_lines(alloc: Global, bytes: &[u8]) -> Result<Report, ReportError>
             None => return Err(ReportError::BadLine(number)),
             Some(next) => next,
         };
-        if !allows(&state, &next) {
+        if !allows(alloc, &state, &next)? {
             return Err(ReportError::BadLine(number));
         }
         state = after(alloc, state, next)?;

@@ -1,13 +1,29 @@
 //! What a report says.
-use crate::{Names, Noises};
+use crate::{Leaders, Names, Noises, Places};
 use history_model::{Game, Noise};
 use match_play::MatchLine;
+use round_robin::{EntryLines, MatchLines};
 
 /// The lines of a report that its first word names. Entries are places in the report's names.
 #[derive(Drop)]
 pub enum Body {
     /// One match.
-    Match { line: MatchLine },
+    Match {
+        line: MatchLine,
+    },
+    /// Matches, and what they give each entry; `who` names the entry of each of the last lines.
+    Tournament {
+        matches: MatchLines,
+        who: Places,
+        entries: EntryLines,
+    },
+    /// The machines of the first rank with their totals, and the sum of all totals, in units of 10^-12.
+    Drill {
+        /// What the machines are drawn from.
+        number: u64,
+        first: Leaders,
+        sum: i128,
+    },
 }
 
 /// What a command tells of a lab.

@@ -1,134 +1,76 @@
 //! Which line may follow which, and what it leaves.
-ghost use Rattle.std.specs.Prelude.{◌≡◌, ◌≤◌, ◌^◌, true, [], IfOk, OnOk};
-ghost use Rattle.report_lines.specs.Texts.{counts_are, is_match, is_line};
-ghost use Rattle.lab_report.specs.declared.state.BodySoFar.TheVariants as parts;
-ghost use Rattle.lab_report.specs.Grammar.{is_paid, pays, match_allows, body_allows, allows, no_lines, names_with_match, placed_match, after_match, after_body, after, HasRoom, StateHasRoom};
+ghost use Rattle.std.specs.Prelude.{◌≡◌, true, IfOk};
+ghost use Rattle.report_lines.specs.Texts.{is_line};
+ghost use Rattle.lab_report.specs.Grammar.{body_allows, allows, after_head, after_body, after, HasRoom, StateHasRoom};
 
-use crate::state::{BodySoFar, State};
-use crate::{Body, Names};
-use fixed_span::Span;
-use history_model::{Game, Name, Noise, Tally};
-use match_play::MatchLine;
-use report_lines::{Kind, Line, ShownMatch};
-use std::alloc::{AllocFailed, Global};
+use crate::Names;
+use crate::drill_rules::{after_drill, drill_allows};
+use crate::match_rules::{after_match, match_allows};
+use crate::state::{BodySoFar, DrillSoFar, State};
+use crate::table::Table;
+use crate::table_rules::{after_table, table_allows};
+use history_model::{Game, NoMemory, Noise};
+use report_lines::{Kind, Line};
+use std::alloc::Global;
 
-fn is_paid(score: Span, points: u128) -> bool
-    requires { points ≤ 10 ^ 18 }
-    ensures { result ≡ is_paid score points }
-{
-    let (lo, hi) = score.ends();
-    let units = points as i128 * 1_000_000_000_000;
-    lo == units && hi == units
-}
-
-fn pays(game: &Game, found: &ShownMatch, tally: &Option<Tally>) -> bool
-    requires turns { found.now.turns ≤ 10 ^ 12 }
-    requires counts { counts_are found.now.turns tally.now ≡ true }
-    ensures { result ≡ pays game.now found.now.left_score found.now.right_score tally.now }
-{
-    match tally {
-        None => true,
-        Some(tally) => {
-            let left = tally.left_points(game);
-            let right = tally.right_points(game);
-            is_paid(found.left_score, left) && is_paid(found.right_score, right)
-        }
-    }
-}
-
-fn match_allows(game: &Game, line: &Option<MatchLine>, next: &Line) -> bool
-    requires { is_line next.now ≡ true }
-    ensures { result ≡ match_allows game.now line.now next.now }
-{
-    match (line, next) {
-        (None, Line::Match(found)) => pays(game, found, &found.tally),
-        (Some(_), Line::End) => true,
-        _ => false,
-    }
-}
-
-fn body_allows(game: &Game, body: &BodySoFar, next: &Line) -> bool
-    requires { is_line next.now ≡ true }
-    ensures { result ≡ body_allows game.now body.now next.now }
+fn body_allows(
+    alloc: Global,
+    game: &Game,
+    names: &Names,
+    body: &BodySoFar,
+    next: &Line,
+) -> Result<bool, NoMemory>
+    requires line { is_line next.now ≡ true }
+    requires room { HasRoom body.now names.now }
+    ensures { IfOk result (λ allowed. allowed ≡ body_allows game.now names.now body.now next.now) }
 {
     match body {
-        BodySoFar::Match { line } => match_allows(game, line, next),
+        BodySoFar::Match { line } => Ok(match_allows(game, line, next)),
+        BodySoFar::Tournament { table } => table_allows(alloc, game, names, table, next),
     }
 }
 
 /// Whether a line may stand behind those that led to the state.
-pub(crate) fn allows(state: &State, next: &Line) -> bool
-    requires { is_line next.now ≡ true }
-    ensures { result ≡ allows state.now next.now }
+pub(crate) fn allows(alloc: Global, state: &State, next: &Line) -> Result<bool, NoMemory>
+    requires line { is_line next.now ≡ true }
+    requires room { StateHasRoom state.now }
+    ensures { IfOk result (λ allowed. allowed ≡ allows state.now next.now) }
 {
     match (state, next) {
-        (State::Start, Line::Head(_)) => true,
-        (State::AfterHead { .. }, Line::Game(_)) => true,
-        (State::AfterGame { .. }, Line::Noise(_)) => true,
-        (State::InBody { game, body, .. }, _) => body_allows(game, body, next),
-        _ => false,
+        (State::Start, Line::Head(_)) => Ok(true),
+        (State::AfterHead { .. }, Line::Game(_)) => Ok(true),
+        (State::AfterGame { .. }, Line::Noise(_)) => Ok(true),
+        (
+            State::InBody {
+                game,
+                names,
+                body,
+                ..
+            },
+            _,
+        ) => body_allows(alloc, game, names, body, next),
+        (State::InDrill { drill, .. }, _) => Ok(drill_allows(drill, next)),
+        _ => Ok(false),
     }
 }
 
-fn no_lines(kind: Kind) -> BodySoFar
-    ensures { result ≡ no_lines kind }
+// What the first line leaves.
+fn after_head(alloc: Global, kind: Kind) -> State
+    ensures { result ≡ after_head kind }
 {
     match kind {
-        Kind::Match => BodySoFar::Match { line: None },
-    }
-}
-
-// The match with places in place of its names, which come behind all others where they are new.
-fn placed_match(names: &mut Names, found: &ShownMatch) -> Result<MatchLine, AllocFailed<Name>>
-    requires { names.old ≡ [] }
-    ensures line { IfOk result (λ line. line ≡ placed_match names.old found.now) }
-    ensures names { OnOk result (names.new ≡ names_with_match names.old found.now) }
-{
-    let left = names.place(&found.left)?;
-    let right = names.place(&found.right)?;
-    Ok(MatchLine {
-        left,
-        right,
-        turns: found.turns,
-        left_score: found.left_score,
-        right_score: found.right_score,
-        tally: found.tally,
-    })
-}
-
-// What a line behind that of a match leaves, or behind none yet.
-fn after_match(
-    game: Game,
-    noise: Noise,
-    mut names: Names,
-    line: Option<MatchLine>,
-    next: Line,
-) -> Result<State, AllocFailed<Name>>
-    requires { HasRoom (parts.Match line) names }
-    ensures { IfOk result (λ state. state ≡ after_match game noise names line next) }
-{
-    match (line, next) {
-        (None, Line::Match(found)) => {
-            let line = placed_match(&mut names, &found)?;
-            Ok(State::InBody {
-                game,
-                noise,
-                names,
-                body: BodySoFar::Match { line: Some(line) },
-            })
-        }
-        (Some(line), Line::End) => Ok(State::Ended {
-            game,
-            noise,
-            names,
-            body: Body::Match { line },
-        }),
-        (line, _) => Ok(State::InBody {
-            game,
-            noise,
-            names,
-            body: BodySoFar::Match { line },
-        }),
+        Kind::Match => State::AfterHead {
+            body: BodySoFar::Match { line: None },
+        },
+        Kind::Tournament => State::AfterHead {
+            body: BodySoFar::Tournament {
+                table: Table::new(alloc),
+            },
+        },
+        Kind::Drill => State::InDrill {
+            names: Names::new(alloc),
+            drill: DrillSoFar::Begun,
+        },
     }
 }
 
@@ -139,37 +81,42 @@ fn after_body(
     names: Names,
     body: BodySoFar,
     next: Line,
-) -> Result<State, AllocFailed<Name>>
+) -> Result<State, NoMemory>
     requires { HasRoom body names }
     ensures { IfOk result (λ state. state ≡ after_body game noise names body next) }
 {
     match body {
         BodySoFar::Match { line } => after_match(game, noise, names, line, next),
+        BodySoFar::Tournament { table } => after_table(game, noise, names, table, next),
     }
 }
 
 /// What a line leaves behind those that led to the state.
-pub(crate) fn after(alloc: Global, state: State, next: Line) -> Result<State, AllocFailed<Name>>
-    requires { StateHasRoom state }
-    ensures { IfOk result (λ new. new ≡ after state next) }
+#[tactic(auto, using(crate::proofs::RoomLaws::room_kept))]
+pub(crate) fn after(alloc: Global, state: State, next: Line) -> Result<State, NoMemory>
+    requires room { StateHasRoom state }
+    requires line { is_line next ≡ true }
+    requires allowed { allows state next ≡ true }
+    ensures new { IfOk result (λ new. new ≡ after state next) }
+    ensures room { IfOk result StateHasRoom }
 {
     match state {
         State::Start => match next {
-            Line::Head(kind) => Ok(State::AfterHead { kind }),
+            Line::Head(kind) => Ok(after_head(alloc, kind)),
             _ => Ok(State::Start),
         },
-        State::AfterHead { kind } => match next {
-            Line::Game(game) => Ok(State::AfterGame { kind, game }),
-            _ => Ok(State::AfterHead { kind }),
+        State::AfterHead { body } => match next {
+            Line::Game(game) => Ok(State::AfterGame { body, game }),
+            _ => Ok(State::AfterHead { body }),
         },
-        State::AfterGame { kind, game } => match next {
+        State::AfterGame { body, game } => match next {
             Line::Noise(noise) => Ok(State::InBody {
                 game,
                 noise,
                 names: Names::new(alloc),
-                body: no_lines(kind),
+                body,
             }),
-            _ => Ok(State::AfterGame { kind, game }),
+            _ => Ok(State::AfterGame { body, game }),
         },
         State::InBody {
             game,
@@ -177,6 +124,7 @@ pub(crate) fn after(alloc: Global, state: State, next: Line) -> Result<State, Al
             names,
             body,
         } => after_body(game, noise, names, body, next),
+        State::InDrill { names, drill } => after_drill(alloc, names, drill, next),
         ended => Ok(ended),
     }
 }

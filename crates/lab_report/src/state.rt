@@ -1,13 +1,32 @@
 //! What the lines of a report that were read so far leave.
-use crate::{Body, Names};
+use crate::table::Table;
+use crate::{Body, Leaders, Names};
 use history_model::{Game, Noise};
 use match_play::MatchLine;
-use report_lines::Kind;
 
 /// The lines of a body so far, by what the report is of.
 #[derive(Drop)]
 pub(crate) enum BodySoFar {
     Match { line: Option<MatchLine> },
+    Tournament { table: Table },
+}
+
+/// The lines of a drill so far.
+#[derive(Drop)]
+pub(crate) enum DrillSoFar {
+    /// None but the first.
+    Begun,
+    /// The number, and machines of the first rank.
+    Numbered {
+        number: u64,
+        first: Leaders,
+    },
+    /// The sum too.
+    Summed {
+        number: u64,
+        first: Leaders,
+        sum: i128,
+    },
 }
 
 /// What was read, and so which line comes next.
@@ -15,10 +34,10 @@ pub(crate) enum BodySoFar {
 pub(crate) enum State {
     Start,
     AfterHead {
-        kind: Kind,
+        body: BodySoFar,
     },
     AfterGame {
-        kind: Kind,
+        body: BodySoFar,
         game: Game,
     },
     InBody {
@@ -26,6 +45,10 @@ pub(crate) enum State {
         noise: Noise,
         names: Names,
         body: BodySoFar,
+    },
+    InDrill {
+        names: Names,
+        drill: DrillSoFar,
     },
     Ended {
         game: Game,

@@ -112,7 +112,10 @@ fn reads_what_it_writes(rt: HostRuntime) -> Result<(), Fail> {
         let text = changed(rt.alloc(), lines, 5, "")?;
         let report = read(rt.alloc(), &text)?;
         assert_eq!(rt; report.names.as_slice().len(), names);
-        let Body::Match { line } = &report.body;
+        let line = match &report.body {
+            Body::Match { line } => line,
+            Body::Tournament { .. } => return Err(Fail::from("a tournament")),
+        };
         assert_eq!(rt; (line.left, line.right), (0, right));
         assert_eq!(rt; line.left_score, left_score);
         assert_eq!(rt; line.tally.is_some(), sure);

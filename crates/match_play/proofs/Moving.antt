@@ -1,8 +1,8 @@
 -- A player of a side takes a sheet, and then plays a match.
-use Rattle.std.proofs.Common.{◌≡◌, ℕ, zero, suc, [], ◌∷◌, ◌+◌, ◌^◌, ◌<◌, List, length, slice_set, sym, ◌∙◌, ap, subst, arith, refl, get_or-set_same, length-set}
+use Rattle.std.proofs.Common.{◌≡◌, ℕ, zero, suc, [], ◌∷◌, ◌+◌, ◌*◌, ◌^◌, ◌<◌, ◌≤◌, List, length, slice_set, sym, ◌∙◌, ap, subst, arith, refl, get_or-set_same, length-set}
 use Rattle.std.proofs.lemmas.List.{length-map}
 use Rattle.history_model.specs.declared.tally.Tally.{Tally}
-use Rattle.history_model.specs.Automaton.{Automaton, IsSure}
+use Rattle.history_model.specs.Automaton.{Automaton, IsAutomaton, IsSure}
 use Rattle.history_model.specs.History.{History}
 use Rattle.history_model.specs.Path.{match_path}
 use Rattle.history_model.specs.Tally.{counts, total, CountsArePaid}
@@ -12,7 +12,9 @@ use Rattle.player_core.specs.AutomatonOf.{automaton_of, loaded}
 use Rattle.player_core.specs.Bench.{KeepsPlugs}
 use Rattle.player_core.specs.Counts.{Advanced, turns_of}
 use Rattle.player_core.specs.Laws.{CountsAddUp, KeepingLasts, OneChange}
+use Rattle.match_play.specs.Fresh.{IsFresh}
 use Rattle.match_play.specs.Match.{after_match, HasPlayed}
+use Rattle.match_play.specs.Followed.{HasFollowed, FollowedOnBench}
 
 pub record SideMoved (old mid new : List PlayerState) (k turns : ℕ) (sheet : SheetData) (after : PlayerState) : Type 0 where
   pub inside : k < length old
@@ -37,6 +39,9 @@ loaded_plays change old mid k sheet inside load =
     ap (λ (s : PlayerState). s.lasting.automaton) (loaded_there old mid k sheet inside load)
     ∙ ap (λ (a : Automaton). automaton_of sheet a) (sym (ap (λ l. l.automaton) (change.read old k)))
 
+pub is_automaton_too : (a b : Automaton) → a ≡ b → IsAutomaton a → IsAutomaton b
+is_automaton_too a b same valid = subst (λ x. IsAutomaton x) same valid
+
 pub is_sure_too : (a b : Automaton) → b ≡ a → IsSure a → IsSure b
 is_sure_too a b e h = let P : Automaton → Type 0 = λ x. IsSure x in subst P (sym e) h
 
@@ -46,6 +51,53 @@ same_tally a a' b b' n tally ea eb e = e ∙ ap (λ x. counts (match_path x b n)
 pub as_long : CountsArePaid → (tally : Tally) (history : History) (n : ℕ) → tally ≡ counts history → total tally ≡ n → length history ≡ n
 as_long paid tally history n e whole =
     sym (paid (record { r = 0; s = 0; t = 0; p = 0 }) history).turns ∙ sym (ap total e) ∙ whole
+
+-- the player that has taken the sheet followed its match, on the left
+pub left_moved : (old mid new : List PlayerState) (k turns : ℕ) (sheet : SheetData) (right right_end : PlayerState) → k < length old
+    → mid ≡ slice_set old k (loaded (state_at old k) sheet) → KeepsPlugs (lasting_of old) (lasting_of mid) → IsState (state_at mid k)
+    → new ≡ slice_set mid k (state_at new k) → (f : HasFollowed (state_at mid k) right (state_at new k) right_end turns)
+    → SideMoved old mid new k f.steps sheet (state_at new k)
+left_moved old mid new k turns sheet right right_end inside load kept valid others f = record {
+  inside = inside;
+  load = load;
+  kept = kept;
+  played = others;
+  lasting = ap (λ (s : PlayerState). s.lasting) f.left_is;
+  counted = ap (λ (s : PlayerState). s.turns) f.left_is;
+  valid = valid;
+}
+
+-- and on the right
+pub right_moved : (old mid new : List PlayerState) (k turns : ℕ) (sheet : SheetData) (left left_end : PlayerState) → k < length old
+    → mid ≡ slice_set old k (loaded (state_at old k) sheet) → KeepsPlugs (lasting_of old) (lasting_of mid) → IsState (state_at mid k)
+    → new ≡ slice_set mid k (state_at new k) → (f : HasFollowed left (state_at mid k) left_end (state_at new k) turns)
+    → SideMoved old mid new k f.steps sheet (state_at new k)
+right_moved old mid new k turns sheet left left_end inside load kept valid others f = record {
+  inside = inside;
+  load = load;
+  kept = kept;
+  played = others;
+  lasting = ap (λ (s : PlayerState). s.lasting) f.right_is;
+  counted = ap (λ (s : PlayerState). s.turns) f.right_is;
+  valid = valid;
+}
+
+-- the match of two players that have taken their sheets, as that of what the sheets play
+pub bench_followed : (a b : Automaton) (left right left_end right_end : PlayerState) (turns : ℕ) (old_left new_left old_right new_right : List PlayerState)
+    → left.lasting.automaton ≡ a → right.lasting.automaton ≡ b → (f : HasFollowed left right left_end right_end turns)
+    → Advanced f.steps old_left new_left → Advanced f.steps old_right new_right → FollowedOnBench a b turns old_left new_left old_right new_right
+bench_followed a b left right left_end right_end turns old_left new_left old_right new_right left_plays right_plays f left_advanced right_advanced =
+    let P : Automaton → Type 0 = λ x. f.steps ≤ 2 * (length x.rows * length right.lasting.automaton.rows) in
+    let Q : Automaton → Type 0 = λ y. f.steps ≤ 2 * (length a.rows * length y.rows) in
+    let S : Automaton → Type 0 = λ x. (j : ℕ) → IsFresh x right.lasting.automaton turns j → j ≤ f.steps in
+    let T : Automaton → Type 0 = λ y. (j : ℕ) → IsFresh a y turns j → j ≤ f.steps in
+    record {
+      steps = f.steps;
+      within = subst Q right_plays (subst P left_plays f.within);
+      fresh = subst T right_plays (subst S left_plays f.fresh);
+      left_advanced = left_advanced;
+      right_advanced = right_advanced;
+    }
 
 pub side_kept : KeepingLasts → OneChange → (old mid new : List PlayerState) (k turns : ℕ) (sheet : SheetData) (after : PlayerState)
     → SideMoved old mid new k turns sheet after → KeepsPlugs (lasting_of old) (lasting_of new)

@@ -13,7 +13,8 @@ use player_core::laws::{counts_add_up, entries_play, keeping_lasts, one_change};
 use player_core::{Bench, Player, Seats, Sheet, Side, tabulate};
 use std::alloc::Global;
 
-fn rows_of(player: &Box<dyn Player>) -> u32
+// The number of rows of a player, which is valid.
+pub(crate) fn rows_of(player: &Box<dyn Player>) -> u32
     ensures rows { result ≡ length (state player.now).lasting.automaton.rows }
     ensures valid { IsState (state player.now) }
 {
@@ -22,7 +23,7 @@ fn rows_of(player: &Box<dyn Player>) -> u32
 
 // The number of rows of the player at a place of a side, which is valid.
 #[tactic(auto, using(player_core::proofs::Sides::map_read))]
-fn rows_at(players: &Side, place: usize) -> u32
+pub(crate) fn rows_at(players: &Side, place: usize) -> u32
     requires { place < length (⟦<Side as Seats>⟧.seats players.now) }
     ensures rows { result ≡ length (state_at (⟦<Side as Seats>⟧.seats players.now) place).lasting.automaton.rows }
     ensures valid { IsState (state_at (⟦<Side as Seats>⟧.seats players.now) place) }

@@ -1,15 +1,22 @@
-//! Matches between players in boxes: sure ones are played, and of all others the players are read.
+//! Matches between players in boxes: sure ones are played, long ones by their cycle, and of all others
+//! the players are read.
 #![tactic(auto)]
 
 mod grids;
 mod line;
+mod long;
+mod long_on_bench;
 mod on_bench;
 #[cfg(test)]
 mod tests;
+mod trail;
 mod turn_by_turn;
 
 pub use grids::tabulate_sheets;
 pub use history_model::Tally;
 pub use line::MatchLine;
+pub use long::play_long;
+pub use long_on_bench::play_sheets_long;
 pub use on_bench::play_sheets;
+pub use trail::Trail;
 pub use turn_by_turn::play;

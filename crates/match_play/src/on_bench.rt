@@ -1,6 +1,6 @@
 //! A match of two sheets, on a bench.
 ghost use Rattle.std.specs.Prelude.{◌≡◌, ◌<◌, ◌≤◌, ◌^◌, length, slice_set};
-ghost use Rattle.history_model.specs.Automaton.{IsSure};
+ghost use Rattle.history_model.specs.Automaton.{IsAutomaton, IsSure};
 ghost use Rattle.history_model.specs.History.{turned};
 ghost use Rattle.history_model.specs.Path.{match_path};
 ghost use Rattle.history_model.specs.Tally.{counts, total};
@@ -60,6 +60,8 @@ pub fn play_sheets(bench: &mut Bench, left: &Sheet, right: &Sheet, turns: u64) -
     requires turns { turns ≤ 10 ^ 12 }
     ensures tally { result ≡ counts (match_path (entry_automaton (lasting_of (⟦<Side as Seats>⟧.seats bench.old.left)) left.now) (entry_automaton (lasting_of (⟦<Side as Seats>⟧.seats bench.old.left)) right.now) turns) }
     ensures total { total result ≡ turns }
+    ensures left_valid { IsAutomaton (entry_automaton (lasting_of (⟦<Side as Seats>⟧.seats bench.old.left)) left.now) }
+    ensures right_valid { IsAutomaton (entry_automaton (lasting_of (⟦<Side as Seats>⟧.seats bench.old.left)) right.now) }
     ensures left_played { HasPlayed (⟦<Side as Seats>⟧.seats bench.old.left) (⟦<Side as Seats>⟧.seats bench.new.left) left.now (match_path (entry_automaton (lasting_of (⟦<Side as Seats>⟧.seats bench.old.left)) left.now) (entry_automaton (lasting_of (⟦<Side as Seats>⟧.seats bench.old.left)) right.now) turns) }
     ensures right_played { HasPlayed (⟦<Side as Seats>⟧.seats bench.old.right) (⟦<Side as Seats>⟧.seats bench.new.right) right.now (turned (match_path (entry_automaton (lasting_of (⟦<Side as Seats>⟧.seats bench.old.left)) left.now) (entry_automaton (lasting_of (⟦<Side as Seats>⟧.seats bench.old.left)) right.now) turns)) }
     ensures fits { Fits (lasting_of (⟦<Side as Seats>⟧.seats bench.new.left)) (lasting_of (⟦<Side as Seats>⟧.seats bench.new.right)) }

@@ -1,10 +1,11 @@
 //! A match, played turn by turn.
-ghost use Rattle.std.specs.Prelude.{◌≡◌, ◌^◌, ◌≤◌};
+ghost use Rattle.std.specs.Prelude.{◌≡◌, ◌+◌, ◌^◌, ◌≤◌};
 ghost use Rattle.history_model.specs.Automaton.{IsSure};
 ghost use Rattle.history_model.specs.History.{turned};
 ghost use Rattle.history_model.specs.Path.{match_path, sure_move, sure_play};
 ghost use Rattle.history_model.specs.Tally.{counts, total};
 ghost use Rattle.player_core.specs.State.{IsState, advanced, at_start, more};
+ghost use Rattle.match_play.specs.Cycle.{both, led_on, next_plays};
 ghost use Rattle.match_play.specs.Match.{after_match};
 
 use history_model::{Move, Play, Tally};
@@ -30,9 +31,27 @@ pub fn play(left: &mut Box<dyn Player>, right: &mut Box<dyn Player>, turns: u64)
 {
     restart(left);
     restart(right);
+    go_on(left, right, Tally::new(), turns)
+}
+
+// Plays some turns more from where the two stand, after the plays that are counted already.
+pub(crate) fn go_on(
+    left: &mut Box<dyn Player>,
+    right: &mut Box<dyn Player>,
+    counted: Tally,
+    turns: u64,
+) -> Tally
+    requires { total counted + turns ≤ 10 ^ 12 }
+    ensures tally { result ≡ both counted (counts (next_plays (state left.old) (state right.old) turns)) }
+    ensures total { total result ≡ total counted + turns }
+    ensures left { state left.new ≡ led_on (state left.old) (next_plays (state left.old) (state right.old) turns) turns }
+    ensures right { state right.new ≡ led_on (state right.old) (turned (next_plays (state left.old) (state right.old) turns)) turns }
+    ensures left_valid { IsState (state left.old) }
+    ensures right_valid { IsState (state right.old) }
+{
     let left_den = left.den();
     let right_den = right.den();
-    let mut tally = Tally::new();
+    let mut tally = counted;
     for _turn in 0..turns {
         let play = step(left, left_den, right, right_den);
         tally.count(play.mine, play.theirs);
@@ -41,7 +60,7 @@ pub fn play(left: &mut Box<dyn Player>, right: &mut Box<dyn Player>, turns: u64)
 }
 
 // One turn from where the two stand, and what they played in it as the left one sees it.
-fn step(
+pub(crate) fn step(
     left: &mut Box<dyn Player>,
     left_den: u32,
     right: &mut Box<dyn Player>,

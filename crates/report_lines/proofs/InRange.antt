@@ -1,5 +1,5 @@
 -- What the tests of a line say.
-use Rattle.std.proofs.Common.{◌≡◌, ℕ, ◌*◌, ◌^◌, ◌≤◌, Bool, true, false, leb, ◌&&◌, ℤ, pos, ◌≤ℤ◌, Some, refl, arith}
+use Rattle.std.proofs.Common.{◌≡◌, ℕ, ◌*◌, ◌^◌, ◌<◌, ◌≤◌, Bool, true, false, leb, ◌&&◌, ℤ, pos, ◌≤ℤ◌, Some, refl, arith}
 use Rattle.std.specs.Prelude.{int_le}
 use Rattle.std.proofs.lemmas.Bool.{eqb-true}
 use Rattle.std.proofs.lemmas.Bool.Decides.{nat_tests}
@@ -9,10 +9,12 @@ use Rattle.history_model.specs.Game.{Payoffs}
 use Rattle.history_model.specs.Name.{is_name}
 use Rattle.history_model.specs.Noise.{FlipRate}
 use Rattle.history_model.specs.Tally.{total}
-use Rattle.fixed_span.specs.Span.{Ends}
+use Rattle.fixed_span.specs.Span.{Ends, point}
 use Rattle.fixed_span.specs.Texts.{IsShown}
 use Rattle.report_lines.specs.declared.line.ShownMatch.{ShownMatch}
-use Rattle.report_lines.specs.Texts.{is_payoff, are_payoffs, is_noise, is_turns, is_score, counts_are, is_match}
+use Rattle.report_lines.specs.declared.line.ShownEntry.{ShownEntry}
+use Rattle.report_lines.specs.declared.line.ShownFirst.{ShownFirst}
+use Rattle.report_lines.specs.Texts.{is_payoff, are_payoffs, is_noise, is_turns, is_score, counts_are, is_match, is_total, is_count, is_rank, is_entry, is_number, are_points, is_first}
 
 pub both_true : (a b : Bool) → (a && b) ≡ true → (a ≡ true) × (b ≡ true)
 both_true true b h = (refl, h)
@@ -51,6 +53,12 @@ turns_few turns h = leb_is turns (10 ^ 12) (both_true (leb 1 turns) (leb turns (
 int_le_is : (a b : ℤ) → int_le a b ≡ true → a ≤ℤ b
 int_le_is a b h = grind (arith, ints)
 
+pub total_shown : (total : Ends) → is_total total ≡ true → IsShown total
+total_shown total h =
+    let a = both_true (int_le (pos 0) total.lo) (int_le total.lo total.hi && int_le total.hi (pos (10 ^ 37))) h in
+    let b = both_true (int_le total.lo total.hi) (int_le total.hi (pos (10 ^ 37))) a.1 in
+    record { low = int_le_is (pos 0) total.lo a.0; ordered = int_le_is total.lo total.hi b.0; high = int_le_is total.hi (pos (10 ^ 37)) b.1 }
+
 pub score_shown : (score : Ends) → is_score score ≡ true → IsShown score
 score_shown score h =
     let a = both_true (int_le (pos 0) score.lo) (int_le score.lo score.hi && int_le score.hi (pos (10 ^ 33))) h in
@@ -86,3 +94,33 @@ match_parts m h =
     let c = both_true (is_turns m.turns) (is_score m.left_score) b.0 in
     let d = both_true (is_score m.right_score) (counts_are m.turns m.tally) b.1 in
     record { left = n.0; right = n.1; turns = turns_few m.turns c.0; left_score = c.1; right_score = d.0; counts = d.1 }
+
+pub count_few : (n : ℕ) → is_count n ≡ true → n < 2 ^ 32
+count_few n h = grind (arith, nat_tests)
+
+pub record EntryParts (x : ShownEntry) : Type 0 where
+  pub name : is_name x.name ≡ true
+  pub total : IsShown x.total
+  pub rank : is_rank x.rank ≡ true
+  pub wins : is_count x.wins ≡ true
+  pub undecided : is_count x.undecided ≡ true
+
+pub entry_parts : (x : ShownEntry) → is_entry x ≡ true → EntryParts x
+entry_parts x h =
+    let a = both_true (is_name x.name && is_total x.total) (is_rank x.rank && (is_count x.wins && is_count x.undecided)) h in
+    let n = both_true (is_name x.name) (is_total x.total) a.0 in
+    let b = both_true (is_rank x.rank) (is_count x.wins && is_count x.undecided) a.1 in
+    let c = both_true (is_count x.wins) (is_count x.undecided) b.1 in
+    record { name = n.0; total = total_shown x.total n.1; rank = b.0; wins = c.0; undecided = c.1 }
+
+pub number_few : (n : ℕ) → is_number n ≡ true → n < 2 ^ 64
+number_few n h = grind (arith, nat_tests)
+
+pub record FirstParts (x : ShownFirst) : Type 0 where
+  pub name : is_name x.name ≡ true
+  pub total : IsShown (point x.total)
+
+pub first_parts : (x : ShownFirst) → is_first x ≡ true → FirstParts x
+first_parts x h =
+    let a = both_true (is_name x.name) (are_points x.total) h in
+    record { name = a.0; total = total_shown (point x.total) a.1 }

@@ -1,12 +1,12 @@
 -- The lines of reports and their texts, without the LF that ends each. A line is fields joined by `|`.
-use Rattle.std.specs.Prelude.{codes, ℕ, ◌+◌, ◌*◌, ◌^◌, ◌&&◌, ◌==◌, Bool, true, nat_lt, nat_le, pos, int_le, List, ◌++◌, Option, Some, None, if◌then◌else◌}
+use Rattle.std.specs.Prelude.{codes, ℕ, ◌+◌, ◌*◌, ◌^◌, ◌&&◌, ◌==◌, Bool, true, nat_lt, nat_le, ℤ, pos, int_le, List, ◌++◌, Option, Some, None, if◌then◌else◌}
 use Rattle.std.specs.Fmt.{decimal}
 use Rattle.history_model.specs.declared.tally.Tally.{Tally}
 use Rattle.history_model.specs.Game.{Payoffs}
 use Rattle.history_model.specs.Name.{is_name}
 use Rattle.history_model.specs.Noise.{FlipRate}
 use Rattle.history_model.specs.Tally.{total}
-use Rattle.fixed_span.specs.Span.{Ends}
+use Rattle.fixed_span.specs.Span.{Ends, point}
 use Rattle.fixed_span.specs.Texts.{span_text}
 use Rattle.fixed_span.specs.Verdict.{verdict}
 use Rattle.fixed_span.specs.declared.ordering.Verdict.{Verdict}
@@ -14,12 +14,16 @@ use Rattle.fixed_span.specs.declared.ordering.Verdict.TheVariants as verdicts
 use Rattle.report_lines.specs.declared.line.Kind.{Kind}
 use Rattle.report_lines.specs.declared.line.Kind.TheVariants as kinds
 use Rattle.report_lines.specs.declared.line.ShownMatch.{ShownMatch}
+use Rattle.report_lines.specs.declared.line.ShownEntry.{ShownEntry}
+use Rattle.report_lines.specs.declared.line.ShownFirst.{ShownFirst}
 use Rattle.report_lines.specs.declared.line.Line.{Line}
 use Rattle.report_lines.specs.declared.line.Line.TheVariants as lines
 
 -- what a report is of, as a word
 abbrev pub kind_word : Kind → List ℕ
 kind_word kinds.Match = codes "match"
+kind_word kinds.Tournament = codes "tournament"
+kind_word kinds.Drill = codes "drill"
 
 -- the first line: the version, and what the report is of
 abbrev pub head_text : Kind → List ℕ
@@ -76,12 +80,49 @@ counts_text (Some tally) =
 abbrev pub match_text : ShownMatch → List ℕ
 match_text m = players_text m.left m.right m.turns ++ (scores_text m.left_score m.right_score ++ counts_text m.tally)
 
+-- whose line it is, and what it scored in all
+abbrev pub entry_front : List ℕ → Ends → List ℕ
+entry_front name total = codes "entry|" ++ (name ++ (codes "|" ++ (score_text total ++ codes "|")))
+
+-- a rank, or that the totals leave it undecided
+abbrev pub rank_text : Option ℕ → List ℕ
+rank_text None = codes "undecided"
+rank_text (Some rank) = decimal rank
+
+-- in how many matches an entry won, and in how many the winner is undecided
+abbrev pub entry_counts : ℕ → ℕ → List ℕ
+entry_counts wins undecided = codes "|" ++ (decimal wins ++ (codes "|" ++ decimal undecided))
+
+-- an entry of a tournament: its name and total, rank and counts
+abbrev pub entry_text : ShownEntry → List ℕ
+entry_text x = entry_front x.name x.total ++ (rank_text x.rank ++ entry_counts x.wins x.undecided)
+
+-- the number of a drill, its 64 machines, and the turns of each match
+abbrev pub drill_text : ℕ → List ℕ
+drill_text number = codes "drill|" ++ (decimal number ++ codes "|64|1000000000")
+
+-- a score that is a point
+abbrev pub points_text : ℤ → List ℕ
+points_text units = score_text (point units)
+
+-- a machine of the first rank, and its total
+abbrev pub first_text : ShownFirst → List ℕ
+first_text x = codes "first|" ++ (x.name ++ (codes "|" ++ points_text x.total))
+
+-- the sum of all totals
+abbrev pub total_text : ℤ → List ℕ
+total_text sum = codes "total|" ++ points_text sum
+
 -- each kind of line
 abbrev pub line_text : Line → List ℕ
 line_text (lines.Head kind) = head_text kind
 line_text (lines.Game game) = game_text game
 line_text (lines.Noise noise) = noise_text noise
 line_text (lines.Match m) = match_text m
+line_text (lines.Entry x) = entry_text x
+line_text (lines.Drill number) = drill_text number
+line_text (lines.First x) = first_text x
+line_text (lines.Total sum) = total_text sum
 line_text lines.End = codes "end"
 
 -- ---- the ranges of what a line shows
@@ -116,10 +157,43 @@ abbrev pub is_match : ShownMatch → Bool
 is_match m =
     (is_name m.left && is_name m.right) && ((is_turns m.turns && is_score m.left_score) && (is_score m.right_score && counts_are m.turns m.tally))
 
+-- from 0 to 10^37 units
+abbrev pub is_total : Ends → Bool
+is_total total = int_le (pos 0) total.lo && (int_le total.lo total.hi && int_le total.hi (pos (10 ^ 37)))
+
+-- a number of matches or entries, below 2^32
+abbrev pub is_count : ℕ → Bool
+is_count n = nat_lt n (2 ^ 32)
+
+-- a rank is a count, where it is decided
+abbrev pub is_rank : Option ℕ → Bool
+is_rank None = true
+is_rank (Some rank) = is_count rank
+
+-- all that the line of an entry shows is in range
+abbrev pub is_entry : ShownEntry → Bool
+is_entry x = (is_name x.name && is_total x.total) && (is_rank x.rank && (is_count x.wins && is_count x.undecided))
+
+-- a number below 2^64
+abbrev pub is_number : ℕ → Bool
+is_number n = nat_lt n (2 ^ 64)
+
+-- from 0 to 10^37 units
+abbrev pub are_points : ℤ → Bool
+are_points units = is_total (point units)
+
+-- all that the line of a machine shows is in range
+abbrev pub is_first : ShownFirst → Bool
+is_first x = is_name x.name && are_points x.total
+
 -- each kind of line
 abbrev pub is_line : Line → Bool
 is_line (lines.Head kind) = true
 is_line (lines.Game game) = are_payoffs game
 is_line (lines.Noise noise) = is_noise noise
 is_line (lines.Match m) = is_match m
+is_line (lines.Entry x) = is_entry x
+is_line (lines.Drill number) = is_number number
+is_line (lines.First x) = is_first x
+is_line (lines.Total sum) = are_points sum
 is_line lines.End = true

@@ -9,6 +9,6 @@ mod tests;
 mod writing;
 
 pub use laws::lines_are_exact;
-pub use line::{Kind, Line, ShownMatch};
+pub use line::{Kind, Line, ShownEntry, ShownFirst, ShownMatch};
 pub use reading::line_of;
 pub use writing::push_line;

@@ -7,6 +7,10 @@ use history_model::{Game, Name, Noise, Tally};
 pub enum Kind {
     /// One match.
     Match,
+    /// Matches of entries, and how each entry did in them.
+    Tournament,
+    /// The first of the machines that are drawn from a number.
+    Drill,
 }
 
 /// A match as its line shows it, with the names of its players: the turns, what the two scored, and,
@@ -25,6 +29,29 @@ pub struct ShownMatch {
     pub tally: Option<Tally>,
 }
 
+/// An entry of a tournament as its line shows it, with its name: what it scored in all its matches,
+/// its rank, and in how many matches it won or the winner is undecided. The range of the total is
+/// that of lines that are printed and read, and not the type's.
+#[derive(Clone, Copy)]
+pub struct ShownEntry {
+    pub name: Name,
+    /// From 0 to 10^37 units of 10^-12.
+    pub total: Span,
+    /// `None` where the totals leave it undecided.
+    pub rank: Option<u32>,
+    pub wins: u32,
+    pub undecided: u32,
+}
+
+/// A machine of the first rank as its line shows it, with its name and its total. The range of the
+/// total is that of lines that are printed and read, and not the type's.
+#[derive(Clone, Copy)]
+pub struct ShownFirst {
+    pub name: Name,
+    /// From 0 to 10^37 units of 10^-12.
+    pub total: i128,
+}
+
 /// A line of a report.
 #[derive(Clone, Copy)]
 pub enum Line {
@@ -36,6 +63,14 @@ pub enum Line {
     Noise(Noise),
     /// A match.
     Match(ShownMatch),
+    /// An entry of a tournament.
+    Entry(ShownEntry),
+    /// The number of a drill, with how many machines there are and how many turns each two play.
+    Drill(u64),
+    /// A machine of the first rank.
+    First(ShownFirst),
+    /// The sum of all totals, from 0 to 10^37 units of 10^-12.
+    Total(i128),
     /// The last line.
     End,
 }

@@ -1,11 +1,11 @@
 //! Reads lines.
 ghost use Rattle.std.specs.Prelude.{◌≡◌, ◌≤◌, true, IfOk, IfSome};
 ghost use Rattle.std.specs.Str.{bytes_eq};
-ghost use Rattle.report_lines.specs.Texts.{is_payoff, are_payoffs, is_noise, is_turns, is_score, counts_are, is_match, is_line};
-ghost use Rattle.report_lines.specs.Reading.{name_of, score_of, kind_of, payoff_of, game_of, noise_of, tally_of, counts_of, scores_of, match_of, guess, line_of};
+ghost use Rattle.report_lines.specs.Texts.{is_payoff, are_payoffs, is_noise, is_turns, is_score, counts_are, is_match, is_total, is_count, is_rank, is_entry, is_line, is_number, are_points, is_first};
+ghost use Rattle.report_lines.specs.Reading.{name_of, score_of, kind_of, payoff_of, game_of, noise_of, tally_of, counts_of, scores_of, match_of, count_of, rank_of, entry_of, points_of, first_of, drill_line, guess, line_of};
 
 use crate::writing::push_line;
-use crate::{Kind, Line, ShownMatch};
+use crate::{Kind, Line, ShownEntry, ShownFirst, ShownMatch};
 use fixed_span::{Span, read_span};
 use history_model::{Game, Name, Noise, Tally};
 use std::alloc::AllocError;
@@ -35,6 +35,10 @@ fn kind_of(text: &[u8]) -> Option<Kind>
 {
     if is(text, "match") {
         Some(Kind::Match)
+    } else if is(text, "tournament") {
+        Some(Kind::Tournament)
+    } else if is(text, "drill") {
+        Some(Kind::Drill)
     } else {
         None
     }
@@ -147,6 +151,90 @@ fn match_of(text: &[u8]) -> Option<ShownMatch>
     })
 }
 
+#[tactic(auto, unfolding(crate::specs::Reading::count_of))]
+fn count_of(text: &[u8]) -> Option<u32>
+    ensures { result ≡ count_of text.now }
+{
+    let n = small(text)?;
+    if n < 1 << 32 { Some(n as u32) } else { None }
+}
+
+// The rank that a field shows, which may be undecided.
+#[tactic(auto, unfolding(crate::specs::Reading::rank_of))]
+fn rank_of(text: &[u8]) -> Option<Option<u32>>
+    ensures { result ≡ rank_of text.now }
+{
+    if is(text, "undecided") {
+        return Some(None);
+    }
+    let rank = count_of(text)?;
+    Some(Some(rank))
+}
+
+#[tactic(auto, unfolding(crate::specs::Reading::entry_of))]
+fn entry_of(text: &[u8]) -> Option<ShownEntry>
+    ensures { result ≡ entry_of text.now }
+{
+    let (name, rest) = cut(text, b'|');
+    let (total, rest) = cut(rest, b'|');
+    let (rank, rest) = cut(rest, b'|');
+    let (wins, rest) = cut(rest, b'|');
+    let (undecided, _) = cut(rest, b'|');
+    let name = name_of(name)?;
+    let total = score_of(total)?;
+    let rank = rank_of(rank)?;
+    let wins = count_of(wins)?;
+    let undecided = count_of(undecided)?;
+    Some(ShownEntry {
+        name,
+        total,
+        rank,
+        wins,
+        undecided,
+    })
+}
+
+// The points that a field shows. A span that is none has another text.
+#[tactic(auto, unfolding(crate::specs::Reading::points_of))]
+fn points_of(text: &[u8]) -> Option<i128>
+    ensures { result ≡ points_of text.now }
+{
+    let score = score_of(text)?;
+    Some(score.ends().0)
+}
+
+#[tactic(auto, unfolding(crate::specs::Reading::first_of))]
+fn first_of(text: &[u8]) -> Option<ShownFirst>
+    ensures { result ≡ first_of text.now }
+{
+    let (name, rest) = cut(text, b'|');
+    let (total, _) = cut(rest, b'|');
+    let name = name_of(name)?;
+    let total = points_of(total)?;
+    Some(ShownFirst { name, total })
+}
+
+// The line of a drill by its first field, and what stands behind it.
+#[tactic(auto, unfolding(crate::specs::Reading::drill_line))]
+fn drill_line(word: &[u8], rest: &[u8]) -> Option<Line>
+    ensures { result ≡ drill_line word.now rest.now }
+{
+    let (next, _) = cut(rest, b'|');
+    if is(word, "drill") {
+        let number = small(next)?;
+        return Some(Line::Drill(number));
+    }
+    if is(word, "first") {
+        let first = first_of(rest)?;
+        return Some(Line::First(first));
+    }
+    if is(word, "total") {
+        let sum = points_of(next)?;
+        return Some(Line::Total(sum));
+    }
+    None
+}
+
 // A line by its first field; what its other fields don't need isn't looked at.
 #[tactic(auto, unfolding(crate::specs::Reading::guess))]
 fn guess(text: &[u8]) -> Option<Line>
@@ -156,6 +244,10 @@ fn guess(text: &[u8]) -> Option<Line>
     if is(word, "match") {
         let found = match_of(rest)?;
         return Some(Line::Match(found));
+    }
+    if is(word, "entry") {
+        let entry = entry_of(rest)?;
+        return Some(Line::Entry(entry));
     }
     if is(word, "axlab") {
         let (_, rest) = cut(rest, b'|');
@@ -173,7 +265,7 @@ fn guess(text: &[u8]) -> Option<Line>
     if is(word, "end") {
         return Some(Line::End);
     }
-    None
+    drill_line(word, rest)
 }
 
 fn are_payoffs(game: &Game) -> bool
@@ -226,6 +318,59 @@ fn is_match(found: &ShownMatch) -> bool
         && (is_score(found.right_score) && counts_are(found.turns, &found.tally))
 }
 
+fn is_total(total: Span) -> bool
+    ensures { result ≡ is_total total }
+{
+    let (lo, hi) = total.ends();
+    0 <= lo && (lo <= hi && hi <= 10_000_000_000_000_000_000_000_000_000_000_000_000)
+}
+
+// Every count is in range by its type.
+fn is_count(_count: u32) -> bool
+    ensures { result ≡ is_count _count }
+{
+    true
+}
+
+fn is_rank(rank: Option<u32>) -> bool
+    ensures { result ≡ is_rank rank }
+{
+    match rank {
+        None => true,
+        Some(rank) => is_count(rank),
+    }
+}
+
+fn is_entry(entry: &ShownEntry) -> bool
+    ensures { result ≡ is_entry entry.now }
+{
+    // The name is a name by its type.
+    let _name = entry.name.len();
+    is_total(entry.total)
+        && (is_rank(entry.rank) && (is_count(entry.wins) && is_count(entry.undecided)))
+}
+
+// Every number is in range by its type.
+fn is_number(_number: u64) -> bool
+    ensures { result ≡ is_number _number }
+{
+    true
+}
+
+fn are_points(units: i128) -> bool
+    ensures { result ≡ are_points units }
+{
+    is_total(Span::point(units))
+}
+
+fn is_first(first: &ShownFirst) -> bool
+    ensures { result ≡ is_first first.now }
+{
+    // The name is a name by its type.
+    let _name = first.name.len();
+    are_points(first.total)
+}
+
 fn is_line(line: &Line) -> bool
     ensures { result ≡ is_line line.now }
 {
@@ -234,6 +379,10 @@ fn is_line(line: &Line) -> bool
         Line::Game(game) => are_payoffs(game),
         Line::Noise(noise) => is_noise(noise),
         Line::Match(found) => is_match(found),
+        Line::Entry(entry) => is_entry(entry),
+        Line::Drill(number) => is_number(*number),
+        Line::First(first) => is_first(first),
+        Line::Total(sum) => are_points(*sum),
         Line::End => true,
     }
 }

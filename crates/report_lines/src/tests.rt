@@ -8,6 +8,7 @@ fn reads_lines(rt: HostRuntime) -> Result<(), Fail> {
     for (text, is_line) in [
         ("axlab|1|match", true),
         ("axlab|1|matches", false),
+        ("axlab|1|tournament", true),
         ("game|3|0|5|1|dilemma|yes", true),
         ("game|3|0|5|1|dilemma|no", false),
         ("game|3|0|1000001|1|dilemma|no", false),
@@ -25,6 +26,10 @@ fn reads_lines(rt: HostRuntime) -> Result<(), Fail> {
             "match|A|B|1|0.000000000001..0.500000000000|0.500000000001|right|mixed",
             true,
         ),
+        ("entry|A|0.000000000000|1|0|0", true),
+        ("entry|A|1.000000000000..2.500000000000|undecided|2|1", true),
+        ("entry|A|0.000000000000|4294967296|0|0", false),
+        ("entry|A|0.000000000000|1|00|0", false),
         ("end", true),
         ("end|", false),
         ("", false),

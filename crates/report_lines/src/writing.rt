@@ -2,11 +2,11 @@
 ghost use Rattle.std.specs.Prelude.{◌≡◌, ◌≤◌, ◌^◌, ◌++◌, true, Some, OnOk, string_bytes};
 ghost use Rattle.history_model.specs.Tally.{total};
 ghost use Rattle.fixed_span.specs.Verdict.{verdict};
-ghost use Rattle.report_lines.specs.Texts.{kind_word, head_text, is_dilemma, dilemma_word, game_text, noise_text, players_text, winner_word, scores_text, counts_text, match_text, line_text, is_score, is_match, counts_are, is_line};
+ghost use Rattle.report_lines.specs.Texts.{kind_word, head_text, is_dilemma, dilemma_word, game_text, noise_text, players_text, winner_word, scores_text, counts_text, match_text, entry_front, rank_text, entry_counts, entry_text, line_text, is_score, is_match, counts_are, is_total, is_entry, is_line, drill_text, first_text, total_text, are_points, is_first};
 
-use crate::{Kind, Line, ShownMatch};
+use crate::{Kind, Line, ShownEntry, ShownFirst, ShownMatch};
 use fixed_span::{ScoreSpan, Span, Verdict, compare};
-use history_model::{Game, Noise, Tally};
+use history_model::{Game, Name, Noise, Tally};
 use std::alloc::AllocError;
 
 fn kind_word(kind: Kind) -> &'static str
@@ -14,6 +14,8 @@ fn kind_word(kind: Kind) -> &'static str
 {
     match kind {
         Kind::Match => "match",
+        Kind::Tournament => "tournament",
+        Kind::Drill => "drill",
     }
 }
 
@@ -106,6 +108,65 @@ fn add_match(text: &mut String, found: &ShownMatch) -> Result<(), AllocError>
     add_counts(text, &found.tally, found.turns)
 }
 
+fn add_entry_front(text: &mut String, name: &Name, total: Span) -> Result<(), AllocError>
+    requires { is_total total ≡ true }
+    ensures { OnOk result (string_bytes text.new ≡ string_bytes text.old ++ entry_front name.now total) }
+{
+    let total = ScoreSpan { span: total };
+    write!(text, "entry|{name}|{total}|")
+}
+
+fn add_rank(text: &mut String, rank: Option<u32>) -> Result<(), AllocError>
+    ensures { OnOk result (string_bytes text.new ≡ string_bytes text.old ++ rank_text rank) }
+{
+    match rank {
+        None => text.push_str("undecided"),
+        Some(rank) => write!(text, "{rank}"),
+    }
+}
+
+fn add_entry_counts(text: &mut String, wins: u32, undecided: u32) -> Result<(), AllocError>
+    ensures { OnOk result (string_bytes text.new ≡ string_bytes text.old ++ entry_counts wins undecided) }
+{
+    write!(text, "|{wins}|{undecided}")
+}
+
+fn add_entry(text: &mut String, entry: &ShownEntry) -> Result<(), AllocError>
+    requires { is_entry entry.now ≡ true }
+    ensures { OnOk result (string_bytes text.new ≡ string_bytes text.old ++ entry_text entry.now) }
+{
+    add_entry_front(text, &entry.name, entry.total)?;
+    add_rank(text, entry.rank)?;
+    add_entry_counts(text, entry.wins, entry.undecided)
+}
+
+fn add_drill(text: &mut String, number: u64) -> Result<(), AllocError>
+    ensures { OnOk result (string_bytes text.new ≡ string_bytes text.old ++ drill_text number) }
+{
+    write!(text, "drill|{number}|64|1000000000")
+}
+
+fn add_first(text: &mut String, first: &ShownFirst) -> Result<(), AllocError>
+    requires { is_first first.now ≡ true }
+    ensures { OnOk result (string_bytes text.new ≡ string_bytes text.old ++ first_text first.now) }
+{
+    let name = &first.name;
+    let total = ScoreSpan {
+        span: Span::point(first.total),
+    };
+    write!(text, "first|{name}|{total}")
+}
+
+fn add_total(text: &mut String, sum: i128) -> Result<(), AllocError>
+    requires { are_points sum ≡ true }
+    ensures { OnOk result (string_bytes text.new ≡ string_bytes text.old ++ total_text sum) }
+{
+    let sum = ScoreSpan {
+        span: Span::point(sum),
+    };
+    write!(text, "total|{sum}")
+}
+
 /// Adds the text of a line that is in range, without its LF.
 ///
 /// # Errors
@@ -120,6 +181,10 @@ pub fn push_line(text: &mut String, line: &Line) -> Result<(), AllocError>
         Line::Game(game) => add_game(text, game),
         Line::Noise(noise) => add_noise(text, noise),
         Line::Match(found) => add_match(text, found),
+        Line::Entry(entry) => add_entry(text, entry),
+        Line::Drill(number) => add_drill(text, *number),
+        Line::First(first) => add_first(text, first),
+        Line::Total(sum) => add_total(text, *sum),
         Line::End => text.push_str("end"),
     }
 }

@@ -1,3 +1,11 @@
 pub mod Asking
+pub mod AskingAll
+pub mod Contesting
+pub mod Counting
+pub mod Listing
 pub mod Paying
 pub mod Ranging
+pub mod Summing
+pub mod TrueRanks
+pub mod TrueTotals
+pub mod TrueTournaments

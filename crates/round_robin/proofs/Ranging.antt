@@ -13,7 +13,7 @@ use Rattle.history_model.specs.Path.{sure_play, path, match_path}
 use Rattle.history_model.specs.Tally.{total, left_points, right_points, CountsArePaid}
 use Rattle.fixed_span.specs.Span.{Ends, point, score_units}
 use Rattle.match_play.specs.declared.line.MatchLine.{MatchLine}
-use Rattle.product_chain.specs.Expected.{expected_score}
+use Rattle.product_chain.specs.Expected.{expected_score, IsPayable}
 use Rattle.round_robin.specs.Laws.{AreSides, IsInRange, IsScoreSpan, LinesHold}
 use Rattle.round_robin.specs.Line.{IsExpected, IsScored}
 use Rattle.round_robin.proofs.Paying.{held_by, points_expected}
@@ -39,6 +39,13 @@ few_units n k turns pays =
     let second : 10 ^ 12 * k ≤ 10 ^ 18 = omega (arith, pays) in
     omega (arith, first, second)
 
+pub payable_range : (game : Payoffs) (n : ℕ) (span : Ends) → IsGame game → n ≤ 10 ^ 12 → span.lo ≤ℤ span.hi → IsPayable game n span → IsScoreSpan span
+payable_range game n span is turns ordered payable = record {
+  low = omega (arith, ints, payable.low);
+  ordered = ordered;
+  high = omega (arith, ints, payable.high, few_units n (most game) turns (most_few game is));
+}
+
 expected_range : (a : Automaton) (na : FlipRate) (b : Automaton) (nb : FlipRate) (game : Payoffs) (n : ℕ) (span : Ends)
     → AreSides a na b nb → IsGame game → n ≤ 10 ^ 12 → IsExpected a na b nb game n span → IsScoreSpan span
 expected_range a na b nb game n span sides is turns e =
@@ -46,8 +53,8 @@ expected_range a na b nb game n span sides is turns e =
     one-le-pow n (quotient (player a) na (player b) nb)
     (mul-pos (mul-pos (omega (arith, sides.left.some)) (omega (arith, sides.left_rate.some))) (mul-pos (omega (arith, sides.right.some)) (omega (arith, sides.right_rate.some)))) in
     let low : pos 0 ≤ℤ span.lo = omega (arith, ints, e.payable.low) in
-    let high : span.hi ≤ℤ pos (10 ^ 30) = omega (arith, ints, e.payable.high, few_units n (most game) turns (most_few game is)) in
-    record { low = low; ordered = in_order score_units _ span.lo span.hi (expected_score (player a) na (player b) nb game 0 n).numerator some low e.holds.low e.holds.high; high = high }
+    payable_range game n span is turns
+    (in_order score_units _ span.lo span.hi (expected_score (player a) na (player b) nb game 0 n).numerator some low e.holds.low e.holds.high) e.payable
 
 -- a point is its own two ends
 point_range : (n k : ℕ) (span : Ends) → n ≤ 10 ^ 12 → k ≤ 1000000 * n → span ≡ point (pos (k * score_units)) → IsScoreSpan span

@@ -1,6 +1,8 @@
 //! Laws, proved once: a caller has one by calling its function, which does nothing.
 ghost use Rattle.round_robin.specs.Laws.{LinesHold};
+ghost use Rattle.round_robin.specs.Truth.{RanksAreTrue, TotalsHoldTrueTotals, TournamentsAreTrue};
 
+use fixed_span::verdicts_are_true;
 use history_model::{
     automata_are_weighed, counts_are_paid, histories_agree_with_rows, offset_lowers,
 };
@@ -13,4 +15,25 @@ pub fn lines_hold()
     counts_are_paid();
     histories_agree_with_rows();
     offset_lowers();
+}
+
+/// Where the spans of matches hold what the entries expect, totals hold the true totals.
+pub fn totals_hold_true_totals()
+    ensures { TotalsHoldTrueTotals }
+{}
+
+/// Where spans hold fractions, a rank that isn't undecided is the true rank of these.
+pub fn ranks_are_true()
+    ensures { RanksAreTrue }
+{
+    verdicts_are_true();
+}
+
+/// The totals of a tournament hold the true totals, and a rank that isn't undecided is the true rank.
+pub fn tournaments_are_true()
+    ensures { TournamentsAreTrue }
+{
+    lines_hold();
+    totals_hold_true_totals();
+    ranks_are_true();
 }

@@ -1,9 +1,23 @@
-//! Matches as lines of results: a sure match by its plays, every other by what both sides expect.
+//! Matches as lines of results, and what a tournament makes of them: a sure match by its plays, every
+//! other by what both sides expect; totals by the spans of the lines, and ranks by the totals.
 #![tactic(auto)]
 
+mod contestant;
 mod entrant;
 pub mod laws;
 mod lines;
+mod pairing;
+mod ranking;
+mod scoring;
+mod tables;
+#[cfg(test)]
+mod tests;
+mod tournament;
 
+pub use contestant::Contestant;
 pub use entrant::Entrant;
 pub use lines::match_line;
+pub use ranking::{Rank, rank_of, ranks};
+pub use scoring::{total_of, undecided_of, wins_of};
+pub use tables::{EntryLine, EntryLines, MatchLines, Totals};
+pub use tournament::totals;

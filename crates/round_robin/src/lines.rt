@@ -7,14 +7,15 @@ ghost use Rattle.player_core.specs.Bench.{KeepsPlugs};
 ghost use Rattle.player_core.specs.Counts.{turns_of};
 ghost use Rattle.fixed_span.specs.Span.{point, score_units};
 ghost use Rattle.match_play.specs.Known.{IsKnown};
-ghost use Rattle.product_chain.specs.Expected.{IsSureMatch};
-ghost use Rattle.round_robin.specs.Asked.{IsAsked};
+ghost use Rattle.product_chain.specs.Expected.{IsPayable, IsSureMatch};
+ghost use Rattle.round_robin.specs.Asked.{IsAsked, NoTurnsFell};
+ghost use Rattle.round_robin.specs.Laws.{AreSides, IsInRange, IsScoreSpan};
 ghost use Rattle.round_robin.specs.Line.{IsLineOf};
 
 use crate::Entrant;
 use fixed_span::Span;
 use history_model::{Game, NoMemory};
-use match_play::{MatchLine, play_sheets, tabulate_sheets};
+use match_play::{MatchLine, Trail, play_sheets_long, tabulate_sheets};
 use player_core::{Bench, Player, Seats, Side};
 use product_chain::expect;
 use std::alloc::Global;
@@ -25,42 +26,58 @@ const SCORE_UNITS: u128 = 1_000_000_000_000;
 // A whole number of points as a span.
 fn points_span(points: u128) -> Span
     requires { points ≤ 10 ^ 18 }
-    ensures { result ≡ point (pos (points * score_units)) }
+    ensures value { result ≡ point (pos (points * score_units)) }
+    ensures range { IsScoreSpan result }
 {
     Span::point((points * SCORE_UNITS) as i128)
 }
 
+// What some turns can pay is in range. The call does nothing: a caller learns the fact from it.
+fn paid_in_range(span: &Span, game: &Game, turns: u64)
+    requires few_turns { turns ≤ 10000 }
+    requires payable { IsPayable game.now turns span.now }
+    ensures { IsScoreSpan span.now }
+{
+    let _ranges = (game.unsigned(), span.ends());
+}
+
 // The line of a sure match, which is played.
 fn played_line(
+    trail: &mut Trail,
     bench: &mut Bench,
     left: &Entrant,
     right: &Entrant,
     game: &Game,
     turns: u64,
-) -> MatchLine
+) -> Result<MatchLine, NoMemory>
     requires fits { Fits (lasting_of (⟦<Side as Seats>⟧.seats bench.old.left)) (lasting_of (⟦<Side as Seats>⟧.seats bench.old.right)) }
     requires left_known { IsKnown (lasting_of (⟦<Side as Seats>⟧.seats bench.old.left)) left.now.sheet.now }
     requires right_known { IsKnown (lasting_of (⟦<Side as Seats>⟧.seats bench.old.left)) right.now.sheet.now }
     requires few_turns { turns ≤ 10 ^ 12 }
     requires sure { IsSureMatch (entry_automaton (lasting_of (⟦<Side as Seats>⟧.seats bench.old.left)) left.now.sheet.now) left.now.noise (entry_automaton (lasting_of (⟦<Side as Seats>⟧.seats bench.old.left)) right.now.sheet.now) right.now.noise }
-    ensures line { IsLineOf (entry_automaton (lasting_of (⟦<Side as Seats>⟧.seats bench.old.left)) left.now.sheet.now) left.now.noise (entry_automaton (lasting_of (⟦<Side as Seats>⟧.seats bench.old.left)) right.now.sheet.now) right.now.noise game.now turns result }
-    ensures left_place { result.left ≡ left.now.place }
-    ensures right_place { result.right ≡ right.now.place }
-    ensures turns { result.turns ≡ turns }
-    ensures asked { IsAsked (entry_automaton (lasting_of (⟦<Side as Seats>⟧.seats bench.old.left)) left.now.sheet.now) left.now.noise (entry_automaton (lasting_of (⟦<Side as Seats>⟧.seats bench.old.left)) right.now.sheet.now) right.now.noise turns (record { left = turns_of (⟦<Side as Seats>⟧.seats bench.old.left); right = turns_of (⟦<Side as Seats>⟧.seats bench.old.right) }) (record { left = turns_of (⟦<Side as Seats>⟧.seats bench.new.left); right = turns_of (⟦<Side as Seats>⟧.seats bench.new.right) }) }
+    ensures line { IfOk result (IsLineOf (entry_automaton (lasting_of (⟦<Side as Seats>⟧.seats bench.old.left)) left.now.sheet.now) left.now.noise (entry_automaton (lasting_of (⟦<Side as Seats>⟧.seats bench.old.left)) right.now.sheet.now) right.now.noise game.now turns) }
+    ensures left_place { IfOk result (λ line. line.left ≡ left.now.place) }
+    ensures right_place { IfOk result (λ line. line.right ≡ right.now.place) }
+    ensures turns { IfOk result (λ line. line.turns ≡ turns) }
+    ensures range { IfOk result (IsInRange turns) }
+    ensures sides { IfOk result (λ _. AreSides (entry_automaton (lasting_of (⟦<Side as Seats>⟧.seats bench.old.left)) left.now.sheet.now) left.now.noise (entry_automaton (lasting_of (⟦<Side as Seats>⟧.seats bench.old.left)) right.now.sheet.now) right.now.noise) }
+    ensures asked { IfOk result (λ _. IsAsked (entry_automaton (lasting_of (⟦<Side as Seats>⟧.seats bench.old.left)) left.now.sheet.now) left.now.noise (entry_automaton (lasting_of (⟦<Side as Seats>⟧.seats bench.old.left)) right.now.sheet.now) right.now.noise turns (record { left = turns_of (⟦<Side as Seats>⟧.seats bench.old.left); right = turns_of (⟦<Side as Seats>⟧.seats bench.old.right) }) (record { left = turns_of (⟦<Side as Seats>⟧.seats bench.new.left); right = turns_of (⟦<Side as Seats>⟧.seats bench.new.right) })) }
+    ensures none_fell { IfOk result (λ _. NoTurnsFell (record { left = turns_of (⟦<Side as Seats>⟧.seats bench.old.left); right = turns_of (⟦<Side as Seats>⟧.seats bench.old.right) }) (record { left = turns_of (⟦<Side as Seats>⟧.seats bench.new.left); right = turns_of (⟦<Side as Seats>⟧.seats bench.new.right) })) }
     ensures fits { Fits (lasting_of (⟦<Side as Seats>⟧.seats bench.new.left)) (lasting_of (⟦<Side as Seats>⟧.seats bench.new.right)) }
     ensures left_kept { KeepsPlugs (lasting_of (⟦<Side as Seats>⟧.seats bench.old.left)) (lasting_of (⟦<Side as Seats>⟧.seats bench.new.left)) }
     ensures right_kept { KeepsPlugs (lasting_of (⟦<Side as Seats>⟧.seats bench.old.right)) (lasting_of (⟦<Side as Seats>⟧.seats bench.new.right)) }
 {
-    let tally = play_sheets(bench, left.sheet, right.sheet, turns);
-    MatchLine {
+    let tally = play_sheets_long(trail, bench, left.sheet, right.sheet, turns)?;
+    // The chances of flips are in range by their type.
+    let _rates = (left.noise.denominator(), right.noise.denominator());
+    Ok(MatchLine {
         left: left.place,
         right: right.place,
         turns,
         left_score: points_span(tally.left_points(game)),
         right_score: points_span(tally.right_points(game)),
         tally: Some(tally),
-    }
+    })
 }
 
 // The line of a match that isn't sure, whose players are read.
@@ -82,12 +99,18 @@ fn mixed_line(
     ensures left_place { IfOk result (λ line. line.left ≡ left.now.place) }
     ensures right_place { IfOk result (λ line. line.right ≡ right.now.place) }
     ensures turns { IfOk result (λ line. line.turns ≡ turns) }
+    ensures range { IfOk result (IsInRange turns) }
+    ensures sides { IfOk result (λ _. AreSides (entry_automaton (lasting_of (⟦<Side as Seats>⟧.seats bench.old.left)) left.now.sheet.now) left.now.noise (entry_automaton (lasting_of (⟦<Side as Seats>⟧.seats bench.old.left)) right.now.sheet.now) right.now.noise) }
     ensures asked { IfOk result (λ _. IsAsked (entry_automaton (lasting_of (⟦<Side as Seats>⟧.seats bench.old.left)) left.now.sheet.now) left.now.noise (entry_automaton (lasting_of (⟦<Side as Seats>⟧.seats bench.old.left)) right.now.sheet.now) right.now.noise turns (record { left = turns_of (⟦<Side as Seats>⟧.seats bench.old.left); right = turns_of (⟦<Side as Seats>⟧.seats bench.old.right) }) (record { left = turns_of (⟦<Side as Seats>⟧.seats bench.new.left); right = turns_of (⟦<Side as Seats>⟧.seats bench.new.right) })) }
+    ensures none_fell { IfOk result (λ _. NoTurnsFell (record { left = turns_of (⟦<Side as Seats>⟧.seats bench.old.left); right = turns_of (⟦<Side as Seats>⟧.seats bench.old.right) }) (record { left = turns_of (⟦<Side as Seats>⟧.seats bench.new.left); right = turns_of (⟦<Side as Seats>⟧.seats bench.new.right) })) }
     ensures fits { Fits (lasting_of (⟦<Side as Seats>⟧.seats bench.new.left)) (lasting_of (⟦<Side as Seats>⟧.seats bench.new.right)) }
     ensures left_kept { KeepsPlugs (lasting_of (⟦<Side as Seats>⟧.seats bench.old.left)) (lasting_of (⟦<Side as Seats>⟧.seats bench.new.left)) }
     ensures right_kept { KeepsPlugs (lasting_of (⟦<Side as Seats>⟧.seats bench.old.right)) (lasting_of (⟦<Side as Seats>⟧.seats bench.new.right)) }
 {
     let (left_grid, right_grid) = tabulate_sheets(alloc, bench, left.sheet, right.sheet)?;
+    // Grids and chances of flips are valid by their types.
+    let _sides = (left_grid.len(), right_grid.len());
+    let _rates = (left.noise.denominator(), right.noise.denominator());
     let (left_score, right_score) = expect(
         alloc,
         &left_grid,
@@ -97,6 +120,8 @@ fn mixed_line(
         &right.noise,
         turns as u32,
     )?;
+    paid_in_range(&left_score, game, turns);
+    paid_in_range(&right_score, game, turns);
     Ok(MatchLine {
         left: left.place,
         right: right.place,
@@ -108,16 +133,18 @@ fn mixed_line(
 }
 
 /// The line of a match of 1 to 10^12 turns between the players that take the sheets of two entrants.
-/// `sure` tells whether neither sheet draws lots and no move is flipped. Such a match is played turn
-/// by turn; of any other, which has at most 10,000 turns, both players are read, and the line holds
-/// what both sides expect. All other players stay as they are, so the bench goes on fitting with the
-/// same plugs, also without memory.
+/// `sure` tells whether neither sheet draws lots and no move is flipped. Such a match is followed
+/// until its pairs of rows come again, with the marks of the trail, and then counted by whole cycles; of
+/// any other, which has at most 10,000 turns, both players are read, and the line holds what both sides
+/// expect. Scores are from 0 to 10^30 units. All other players stay as they are, so the
+/// bench goes on fitting with the same plugs, also without memory.
 ///
 /// # Errors
 ///
-/// `NoMemory` where a match that isn't sure finds no memory.
+/// `NoMemory` where the trail or a match that isn't sure finds no memory.
 pub fn match_line(
     alloc: Global,
+    trail: &mut Trail,
     bench: &mut Bench,
     left: &Entrant,
     right: &Entrant,
@@ -136,13 +163,16 @@ pub fn match_line(
     ensures left_place { IfOk result (λ line. line.left ≡ left.now.place) }
     ensures right_place { IfOk result (λ line. line.right ≡ right.now.place) }
     ensures turns { IfOk result (λ line. line.turns ≡ turns) }
+    ensures range { IfOk result (IsInRange turns) }
+    ensures sides { IfOk result (λ _. AreSides (entry_automaton (lasting_of (⟦<Side as Seats>⟧.seats bench.old.left)) left.now.sheet.now) left.now.noise (entry_automaton (lasting_of (⟦<Side as Seats>⟧.seats bench.old.left)) right.now.sheet.now) right.now.noise) }
     ensures asked { IfOk result (λ _. IsAsked (entry_automaton (lasting_of (⟦<Side as Seats>⟧.seats bench.old.left)) left.now.sheet.now) left.now.noise (entry_automaton (lasting_of (⟦<Side as Seats>⟧.seats bench.old.left)) right.now.sheet.now) right.now.noise turns (record { left = turns_of (⟦<Side as Seats>⟧.seats bench.old.left); right = turns_of (⟦<Side as Seats>⟧.seats bench.old.right) }) (record { left = turns_of (⟦<Side as Seats>⟧.seats bench.new.left); right = turns_of (⟦<Side as Seats>⟧.seats bench.new.right) })) }
+    ensures none_fell { IfOk result (λ _. NoTurnsFell (record { left = turns_of (⟦<Side as Seats>⟧.seats bench.old.left); right = turns_of (⟦<Side as Seats>⟧.seats bench.old.right) }) (record { left = turns_of (⟦<Side as Seats>⟧.seats bench.new.left); right = turns_of (⟦<Side as Seats>⟧.seats bench.new.right) })) }
     ensures fits { Fits (lasting_of (⟦<Side as Seats>⟧.seats bench.new.left)) (lasting_of (⟦<Side as Seats>⟧.seats bench.new.right)) }
     ensures left_kept { KeepsPlugs (lasting_of (⟦<Side as Seats>⟧.seats bench.old.left)) (lasting_of (⟦<Side as Seats>⟧.seats bench.new.left)) }
     ensures right_kept { KeepsPlugs (lasting_of (⟦<Side as Seats>⟧.seats bench.old.right)) (lasting_of (⟦<Side as Seats>⟧.seats bench.new.right)) }
 {
     if sure {
-        Ok(played_line(bench, left, right, game, turns))
+        played_line(trail, bench, left, right, game, turns)
     } else {
         mixed_line(alloc, bench, left, right, game, turns)
     }

@@ -1,7 +1,7 @@
 use Rattle.std.proofs.Common.{◌∙◌, ap, refl}
 use Rattle.history_model.specs.History.{turned}
 use Rattle.std.proofs.lemmas.List.{length-map}
-use Rattle.match_play.proofs.Moving.{inside_states, counted_on, loaded_plays, is_sure_too, same_tally, same_path, has_played, as_long, side_kept, side_advanced}
+use Rattle.match_play.proofs.Moving.{inside_states, counted_on, loaded_plays, is_automaton_too, is_sure_too, same_tally, same_path, has_played, as_long, side_kept, side_advanced}
 use Rattle.match_play.proofs.on_bench.play_sheets.Goals as goal
 
 pub play_at-requires-clause-sure_left : goal.play_at-requires-clause-sure_left
@@ -17,6 +17,20 @@ play_at-requires-clause-sure_right g c =
     (loaded_plays c.one_change.ensures _ _ _ c.args.right.now (inside_states _ _ c.place_of-j.ensures.right_inside) c.load.ensures.right
     ∙ c.entries_play.ensures.right _ _ _ _ c.requires.fits c.place_of-j.ensures)
     c.requires.sure_right
+
+pub returns-clause-left_valid : goal.returns-clause-left_valid
+returns-clause-left_valid g c =
+    is_automaton_too _ _
+    (loaded_plays c.one_change.ensures _ _ _ c.args.left.now (inside_states _ _ c.place_of-i.ensures.left_inside) c.load.ensures.left
+    ∙ c.entries_play.ensures.left _ _ _ _ c.requires.fits c.place_of-i.ensures)
+    c.play_at.ensures.left_valid.automaton
+
+pub returns-clause-right_valid : goal.returns-clause-right_valid
+returns-clause-right_valid g c =
+    is_automaton_too _ _
+    (loaded_plays c.one_change.ensures _ _ _ c.args.right.now (inside_states _ _ c.place_of-j.ensures.right_inside) c.load.ensures.right
+    ∙ c.entries_play.ensures.right _ _ _ _ c.requires.fits c.place_of-j.ensures)
+    c.play_at.ensures.right_valid.automaton
 
 pub returns-clause-tally : goal.returns-clause-tally
 returns-clause-tally g c =

@@ -1,15 +1,20 @@
-use Rattle.std.proofs.Common.{arith}
-use Rattle.match_play.proofs.Playing.{played_more, played_last}
+use Rattle.match_play.proofs.Playing.{played_left, played_right}
 use Rattle.match_play.proofs.turn_by_turn.play.Goals as goal
-
-pub loop-turn-preserved : goal.loop-turn-preserved
-loop-turn-preserved g c =
-    played_more _ _ _ _ _ _ _ _ _ _ _ c.loop-turn-test.true c.loop-turn.invariant c.step-play.ensures.play c.step-play.ensures.left c.step-play.ensures.right c.count.ensures
 
 pub returns-clause-left : goal.returns-clause-left
 returns-clause-left g c =
-    (played_last _ _ _ _ _ _ _ (omega (arith, c.loop-turn.auto._turn-end, c.loop-turn-test.false)) c.loop-turn.invariant).left_is
+    let left = c.args.left.now in
+    let right = c.args.right.now in
+    played_left
+    ((goal.Player-dyn g (left.vtable, left.value)).state left.value)
+    ((goal.Player-dyn g (right.vtable, right.value)).state right.value)
+    _ _ _ _ c.restart.ensures.state c.restart-2.ensures.state c.go_on.ensures.left
 
 pub returns-clause-right : goal.returns-clause-right
 returns-clause-right g c =
-    (played_last _ _ _ _ _ _ _ (omega (arith, c.loop-turn.auto._turn-end, c.loop-turn-test.false)) c.loop-turn.invariant).right_is
+    let left = c.args.left.now in
+    let right = c.args.right.now in
+    played_right
+    ((goal.Player-dyn g (left.vtable, left.value)).state left.value)
+    ((goal.Player-dyn g (right.vtable, right.value)).state right.value)
+    _ _ _ _ c.restart.ensures.state c.restart-2.ensures.state c.go_on.ensures.right

@@ -1,0 +1,96 @@
+-- Names that grow: what stands in them stays.
+use Rattle.std.proofs.Common.{◌≡◌, ℕ, suc, ◌+◌, ◌<◌, ◌≤◌, List, [], ◌∷◌, ◌++◌, length, map, refl, sym, ap, ◌∙◌, arith, length-append}
+use Rattle.std.specs.List.{All}
+use Rattle.match_play.specs.declared.line.MatchLine.{MatchLine}
+use Rattle.round_robin.specs.declared.tables.EntryLine.{EntryLine}
+use Rattle.history_model.specs.Game.{Payoffs}
+use Rattle.lab_report.specs.Names.{name_at, with_name, with_names, place_in}
+use Rattle.lab_report.specs.Text.{shown_match, match_lines, entry_lines}
+use Rattle.lab_report.specs.Valid.{IsMatchOf, match_names}
+use Rattle.lab_report.proofs.PlaceLaws.{Differ, either, is_old, longer, name_stays, place_new, with_differ, with_moves_none}
+
+-- ---- elements
+
+pub all_head : {X : Type 0} (P : X → Type 0) (x : X) (xs : List X) → All P (x ∷ xs) → P x
+all_head P x xs all = all 0 x (omega arith)
+
+pub all_tail : {X : Type 0} (P : X → Type 0) (x : X) (xs : List X) → All P (x ∷ xs) → All P xs
+all_tail P x xs all k d h = all (suc k) d (omega (arith, h))
+
+-- ---- names
+
+pub record Grows (names more : List (List ℕ)) : Type 0 where
+  pub longer : length names ≤ length more
+  pub stays : (k : ℕ) → k < length names → name_at more k ≡ name_at names k
+  pub moves_none : (name : List ℕ) → place_in names name < length names → place_in more name ≡ place_in names name
+
+pub grows_none : (names : List (List ℕ)) → Grows names names
+grows_none names = record { longer = omega arith; stays = λ k h. refl; moves_none = λ name h. refl }
+
+pub grows_one : (names : List (List ℕ)) (name : List ℕ) → Grows names (with_name names name)
+grows_one names name = record { longer = longer names name; stays = name_stays names name; moves_none = with_moves_none names name }
+
+pub grows_on : (a b c : List (List ℕ)) → Grows a b → Grows b c → Grows a c
+grows_on a b c ab bc = record {
+  longer = omega (arith, ab.longer, bc.longer);
+  stays = λ k h. bc.stays k (omega (arith, h, ab.longer)) ∙ ab.stays k h;
+  moves_none = λ name h. let same = ab.moves_none name h in bc.moves_none name (omega (arith, h, same, ab.longer)) ∙ same;
+}
+
+pub grows_all : (names xs : List (List ℕ)) → Grows names (with_names names xs)
+grows_all names [] = grows_none names
+grows_all names (x ∷ xs) = grows_on names (with_name names x) (with_names (with_name names x) xs) (grows_one names x) (grows_all (with_name names x) xs)
+
+pub all_differ : (names xs : List (List ℕ)) → Differ names → Differ (with_names names xs)
+all_differ names [] d = d
+all_differ names (x ∷ xs) d = all_differ (with_name names x) xs (with_differ names x d)
+
+pub names_then : (names xs ys : List (List ℕ)) → with_names names (xs ++ ys) ≡ with_names (with_names names xs) ys
+names_then names [] ys = refl
+names_then names (x ∷ xs) ys = names_then (with_name names x) xs ys
+
+-- where a name stands with it, it stands without it, or would come next
+pub place_kept : (names : List (List ℕ)) (name : List ℕ) → place_in (with_name names name) name ≡ place_in names name
+place_kept names name =
+    either (λ ns. place_in ns name ≡ place_in names name) names name (is_old names name) (λ _. refl) (λ h. place_new names name h ∙ sym h)
+
+pub one_longer : (names : List (List ℕ)) (name : List ℕ) → length (with_name names name) ≤ length names + 1
+one_longer names name = either (λ ns. length ns ≤ length names + 1) names name (is_old names name) (λ _. omega arith) (λ _. omega (arith, length-append names (name ∷ [])))
+
+-- ---- lines show the names that they showed
+
+match_stays : (names more : List (List ℕ)) → Grows names more → (count : ℕ) (game : Payoffs) (line : MatchLine) → count ≡ length names → IsMatchOf count game line → shown_match more line ≡ shown_match names line
+match_stays names more g count game line e v = rw (g.stays line.left (omega (arith, e, v.left)), g.stays line.right (omega (arith, e, v.right))) refl
+
+pub matches_stay : (names more : List (List ℕ)) → Grows names more → (game : Payoffs) (ms : List MatchLine) → All (IsMatchOf (length names) game) ms → match_lines more ms ≡ match_lines names ms
+matches_stay names more g game [] all = refl
+matches_stay names more g game (m ∷ ms) all =
+    rw (
+      match_stays names more g (length names) game m refl (all_head (IsMatchOf (length names) game) m ms all),
+      matches_stay names more g game ms (all_tail (IsMatchOf (length names) game) m ms all),
+    ) refl
+
+pub match_names_stay : (names more : List (List ℕ)) → Grows names more → (game : Payoffs) (ms : List MatchLine) → All (IsMatchOf (length names) game) ms → match_names more ms ≡ match_names names ms
+match_names_stay names more g game [] all = refl
+match_names_stay names more g game (m ∷ ms) all =
+    let v = all_head (IsMatchOf (length names) game) m ms all in
+    rw (g.stays m.left v.left, g.stays m.right v.right, match_names_stay names more g game ms (all_tail (IsMatchOf (length names) game) m ms all)) refl
+
+abbrev IsBelow : ℕ → ℕ → Type 0
+IsBelow count place = place < count
+
+pub who_stay : (names more : List (List ℕ)) → Grows names more → (who : List ℕ) → All (IsBelow (length names)) who → map (name_at more) who ≡ map (name_at names) who
+who_stay names more g [] all = refl
+who_stay names more g (p ∷ ps) all =
+    rw (g.stays p (all_head (IsBelow (length names)) p ps all), who_stay names more g ps (all_tail (IsBelow (length names)) p ps all)) refl
+
+pub entries_stay : (names more : List (List ℕ)) → Grows names more → (who : List ℕ) (es : List EntryLine) → All (IsBelow (length names)) who → entry_lines more who es ≡ entry_lines names who es
+entries_stay names more g [] [] all = refl
+entries_stay names more g [] (e ∷ es) all = refl
+entries_stay names more g (p ∷ ps) [] all = refl
+entries_stay names more g (p ∷ ps) (e ∷ es) all =
+    rw (g.stays p (all_head (IsBelow (length names)) p ps all), entries_stay names more g ps es (all_tail (IsBelow (length names)) p ps all)) refl
+
+pub match_names_then : (names : List (List ℕ)) (ms ns : List MatchLine) → match_names names (ms ++ ns) ≡ match_names names ms ++ match_names names ns
+match_names_then names [] ns = refl
+match_names_then names (m ∷ ms) ns = ap (λ (xs : List (List ℕ)). name_at names m.left ∷ name_at names m.right ∷ xs) (match_names_then names ms ns)

@@ -1,0 +1,104 @@
+-- The line of one match, both ways.
+use Rattle.std.proofs.Common.{◌≡◌, ℕ, ◌<◌, true, List, [], ◌∷◌, ◌++◌, length, Option, Some, None, refl, sym, ap, subst, ◌∙◌, arith}
+use Rattle.std.proofs.lemmas.List.Elements.{All-nil}
+use Rattle.history_model.specs.Game.{Payoffs}
+use Rattle.history_model.specs.Name.{IsName}
+use Rattle.history_model.specs.Noise.{FlipRate}
+use Rattle.texts.specs.Grammar.{run}
+use Rattle.match_play.specs.declared.line.MatchLine.{MatchLine}
+use Rattle.report_lines.specs.declared.line.ShownMatch.{ShownMatch}
+use Rattle.report_lines.specs.declared.line.Line.{Line}
+use Rattle.report_lines.specs.declared.line.Line.TheVariants as lines
+use Rattle.report_lines.specs.Texts.{is_match, is_line}
+use Rattle.lab_report.specs.declared.report.Body.TheVariants as bodies
+use Rattle.lab_report.specs.declared.state.BodySoFar.TheVariants as parts
+use Rattle.lab_report.specs.declared.state.State.{State}
+use Rattle.lab_report.specs.declared.state.State.TheVariants as states
+use Rattle.lab_report.specs.Grammar.{grammar}
+use Rattle.lab_report.specs.MatchRules.{pays, placed_match, names_with_match, match_allows}
+use Rattle.lab_report.specs.Names.{name_at, with_name, with_names, place_in}
+use Rattle.lab_report.specs.Text.{shown_match, body_lines}
+use Rattle.lab_report.specs.Valid.{IsShowable, IsMatchOf}
+use Rattle.lab_report.proofs.Growth.{all_differ, grows_all}
+use Rattle.lab_report.proofs.PlaceLaws.{place_below, longer, name_stays, stands_there, Differ, none_differ, with_all}
+use Rattle.lab_report.proofs.Ranges.{MatchParts, match_parts, counted, match_back, pays_back}
+use Rattle.lab_report.proofs.States.{IsSound, IsSoundBody, Adds, no_case}
+
+-- ---- a match line, from its text
+
+left_place : (ns : List (List ℕ)) (m : ShownMatch) → place_in (with_name ns m.left) m.left < length (names_with_match ns m)
+left_place ns m = omega (arith, place_below ns m.left, longer (with_name ns m.left) m.right)
+
+pub left_name : (ns : List (List ℕ)) (m : ShownMatch) → name_at (names_with_match ns m) (place_in (with_name ns m.left) m.left) ≡ m.left
+left_name ns m =
+    name_stays (with_name ns m.left) m.right (place_in (with_name ns m.left) m.left) (place_below ns m.left)
+    ∙ stands_there (with_name ns m.left) m.left (place_below ns m.left)
+
+pub right_name : (ns : List (List ℕ)) (m : ShownMatch) → name_at (names_with_match ns m) (place_in (names_with_match ns m) m.right) ≡ m.right
+right_name ns m = stands_there (names_with_match ns m) m.right (place_below (with_name ns m.left) m.right)
+
+-- a match that was placed is shown as it was
+pub now_shown : (ns : List (List ℕ)) (m : ShownMatch) → shown_match (names_with_match ns m) (placed_match ns m) ≡ m
+now_shown ns m = rw (left_name ns m, right_name ns m) refl
+
+placed_showable : (game : Payoffs) (ns : List (List ℕ)) (m : ShownMatch) → MatchParts m → pays game m.left_score m.right_score m.tally ≡ true → IsShowable game (placed_match ns m)
+placed_showable game ns m p paid = record {
+  some_turns = p.some_turns;
+  few_turns = p.few_turns;
+  left = p.left_score;
+  right = p.right_score;
+  counts = counted game (placed_match ns m) m.tally p.counts paid;
+}
+
+-- a match that was placed is one of the names' entries
+pub placed_is : (game : Payoffs) (ns : List (List ℕ)) (m : ShownMatch) → is_match m ≡ true → pays game m.left_score m.right_score m.tally ≡ true → IsMatchOf (length (names_with_match ns m)) game (placed_match ns m)
+placed_is game ns m h paid = record { left = left_place ns m; right = place_below (with_name ns m.left) m.right; showable = placed_showable game ns m (match_parts m h) paid }
+
+sound_match : (game : Payoffs) (m : ShownMatch) → is_match m ≡ true → pays game m.left_score m.right_score m.tally ≡ true → IsSoundBody game (names_with_match [] m) (bodies.Match (placed_match [] m))
+sound_match game m h paid =
+    let p = match_parts m h in
+    record {
+      are_names = with_all IsName (with_name [] m.left) m.right (with_all IsName [] m.left (All-nil IsName) p.left) p.right;
+      shown = rw (left_name [] m, right_name [] m) refl;
+      holds = placed_is game [] m h paid;
+    }
+
+pub match_adds : (game : Payoffs) (noise : FlipRate) (names : List (List ℕ)) (line : Option MatchLine) (i : Line) → IsSound (states.InBody game noise names (parts.Match line)) → is_line i ≡ true
+    → match_allows game line i ≡ true → Adds (states.InBody game noise names (parts.Match line)) i
+match_adds game noise names None (lines.Match m) s h e = rw s.2 ((s.0, s.1, sound_match game m h e), rw (now_shown [] m) refl)
+match_adds game noise names (Some line) lines.End s h e = ((s.0, s.1, s.2, tt), refl)
+match_adds game noise names None _ s h e = no_case e
+match_adds game noise names (Some line) _ s h e = no_case e
+
+-- ---- the line of a valid match is allowed
+
+-- a name that is new or not has the place that it has among all
+pub place_back : (ns more names : List (List ℕ)) (name : List ℕ) (k : ℕ) → names ≡ with_names (with_name ns name) more → Differ names → k < length names → name ≡ name_at names k → place_in (with_name ns name) name ≡ k
+place_back ns more names name k e differ below is =
+    let stays : place_in (with_names (with_name ns name) more) name ≡ place_in (with_name ns name) name = (grows_all (with_name ns name) more).moves_none name (place_below ns name) in
+    sym (ap (λ (all : List (List ℕ)). place_in all name) e ∙ stays) ∙ ap (place_in names) is ∙ differ k below
+
+abbrev placed_at : MatchLine → ℕ → ℕ → MatchLine
+placed_at line left right = record { left = left; right = right; turns = line.turns; left_score = line.left_score; right_score = line.right_score; tally = line.tally }
+
+-- a match that is shown is placed as it was
+pub placed_back : (ns more names : List (List ℕ)) (line : MatchLine) → names ≡ with_names (names_with_match ns (shown_match names line)) more → Differ names → line.left < length names → line.right < length names
+    → placed_match ns (shown_match names line) ≡ line
+placed_back ns more names line e differ below_left below_right =
+    let m = shown_match names line in
+    let left : place_in (with_name ns m.left) m.left ≡ line.left = place_back ns (m.right ∷ more) names m.left line.left e differ below_left refl in
+    let right : place_in (names_with_match ns m) m.right ≡ line.right = place_back (with_name ns m.left) more names m.right line.right e differ below_right refl in
+    ap (λ (k : ℕ). placed_at line k (place_in (names_with_match ns m) m.right)) left ∙ ap (λ (k : ℕ). placed_at line line.left k) right
+
+abbrev end_at : Payoffs → FlipRate → List (List ℕ) → MatchLine → Option State
+end_at game noise names line = Some (states.Ended game noise names (bodies.Match line))
+
+pub match_runs : (game : Payoffs) (noise : FlipRate) (names : List (List ℕ)) (line : MatchLine) → IsSoundBody game names (bodies.Match line)
+    → run grammar (states.InBody game noise [] (parts.Match None)) (body_lines names (bodies.Match line) ++ lines.End ∷ []) ≡ end_at game noise names line
+match_runs game noise names line v =
+    let m = shown_match names line in
+    let differ : Differ names = subst Differ (sym v.shown) (all_differ [] (m.left ∷ m.right ∷ []) none_differ) in
+    let placed : placed_match [] m ≡ line = placed_back [] [] names line v.shown differ v.holds.left v.holds.right in
+    let is : is_match m ≡ true = match_back game names line v.are_names v.holds in
+    let paid : pays game m.left_score m.right_score m.tally ≡ true = pays_back game line v.holds.showable.counts in
+    rw (is, paid) (ap (λ (ns : List (List ℕ)). end_at game noise ns (placed_match [] m)) (sym v.shown) ∙ ap (λ (l : MatchLine). end_at game noise names l) placed)

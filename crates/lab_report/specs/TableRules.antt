@@ -1,0 +1,112 @@
+-- Which line may follow which in the report of a tournament: match lines, then a line for each entry, and then the end.
+use Rattle.std.specs.Prelude.{ℕ, ◌+◌, ◌==◌, ◌&&◌, Bool, true, false, not, nat_lt, nat_le, List, [], ◌∷◌, ◌++◌, length, map, Option, Some, None}
+use Rattle.std.specs.List.{list_any, list_all, range_with_len}
+use Rattle.std.specs.Ordering.{int_eq}
+use Rattle.history_model.specs.Game.{Payoffs}
+use Rattle.history_model.specs.Noise.{FlipRate}
+use Rattle.fixed_span.specs.Span.{Ends}
+use Rattle.match_play.specs.declared.line.MatchLine.{MatchLine}
+use Rattle.round_robin.specs.declared.ranking.Rank.{Rank}
+use Rattle.round_robin.specs.declared.ranking.Rank.TheVariants as ranks
+use Rattle.round_robin.specs.declared.tables.EntryLine.{EntryLine}
+use Rattle.round_robin.specs.Ranks.{rank_of}
+use Rattle.round_robin.specs.Totals.{total_of, wins_of, undecided_of}
+use Rattle.report_lines.specs.declared.line.ShownMatch.{ShownMatch}
+use Rattle.report_lines.specs.declared.line.ShownEntry.{ShownEntry}
+use Rattle.report_lines.specs.declared.line.Line.{Line}
+use Rattle.report_lines.specs.declared.line.Line.TheVariants as lines
+use Rattle.lab_report.specs.declared.report.Body.TheVariants as bodies
+use Rattle.lab_report.specs.declared.state.BodySoFar.TheVariants as parts
+use Rattle.lab_report.specs.declared.state.State.{State}
+use Rattle.lab_report.specs.declared.state.State.TheVariants as states
+use Rattle.lab_report.specs.declared.table.Table.{Table}
+use Rattle.lab_report.specs.MatchRules.{pays, placed_match, names_with_match}
+use Rattle.lab_report.specs.Names.{place_in, with_name}
+
+-- ---- the line of an entry
+
+-- a rank as the line shows it
+abbrev pub rank_read : Option ℕ → Rank
+rank_read None = ranks.Undecided
+rank_read (Some rank) = ranks.At rank
+
+-- the line without the name
+abbrev pub unnamed : ShownEntry → EntryLine
+unnamed x = record { total = x.total; rank = rank_read x.rank; wins = x.wins; undecided = x.undecided }
+
+abbrev pub same_ends : Ends → Ends → Bool
+same_ends a b = int_eq a.lo b.lo && int_eq a.hi b.hi
+
+-- the total of the entry at a place, and its matches won and undecided, are those of the match lines
+abbrev pub adds_up : List MatchLine → ℕ → ShownEntry → Bool
+adds_up matches place x =
+    same_ends x.total (total_of place matches) && (x.wins == wins_of place matches && x.undecided == undecided_of place matches)
+
+-- ---- all lines of entries
+
+-- one of the entries that have a line
+abbrev pub is_listed : List ℕ → ℕ → Bool
+is_listed who place = list_any (λ other. other == place) who
+
+-- each of so many entries has a line
+abbrev pub are_listed : ℕ → List ℕ → Bool
+are_listed count who = list_all (is_listed who) (range_with_len 0 count)
+
+-- the totals that lines show
+abbrev pub totals_in : List EntryLine → List Ends
+totals_in entries = map (λ entry. entry.total) entries
+
+abbrev pub same_rank : Rank → Rank → Bool
+same_rank (ranks.At a) (ranks.At b) = a == b
+same_rank ranks.Undecided ranks.Undecided = true
+same_rank _ _ = false
+
+-- the ranks of these lines, the first of which stands at a place, are those by the totals of all
+abbrev pub ranked_from : List Ends → ℕ → List EntryLine → Bool
+ranked_from totals place [] = true
+ranked_from totals place (entry ∷ more) = same_rank entry.rank (rank_of totals place) && ranked_from totals (place + 1) more
+
+-- each rank is the one by the totals of all lines
+abbrev pub are_ranked : List EntryLine → Bool
+are_ranked entries = ranked_from (totals_in entries) 0 entries
+
+-- ---- one line behind the others
+
+-- at most 2080 matches, before all entries
+abbrev pub match_fits : Payoffs → Table → ShownMatch → Bool
+match_fits game table m =
+    (length table.entries == 0 && nat_lt (length table.matches) 2080) && pays game m.left_score m.right_score m.tally
+
+-- at most 64 entries, each once
+abbrev pub entry_fits : List (List ℕ) → Table → ShownEntry → Bool
+entry_fits names table x =
+    (nat_lt (length table.entries) 64 && not (is_listed table.who (place_in names x.name))) && adds_up table.matches (place_in names x.name) x
+
+-- behind the last entry: its line and those before it have the right ranks, and each entry of a match has a line
+abbrev pub is_whole : List (List ℕ) → Table → Bool
+is_whole names table = (nat_le 1 (length table.entries) && are_ranked table.entries) && are_listed (length names) table.who
+
+-- the table with one more match
+abbrev pub with_match : List (List ℕ) → Table → ShownMatch → Table
+with_match names table m = record { matches = table.matches ++ placed_match names m ∷ []; who = table.who; entries = table.entries }
+
+-- the table with one more entry, whose place is behind all others where its name is new
+abbrev pub with_entry : List (List ℕ) → Table → ShownEntry → Table
+with_entry names table x =
+    record { matches = table.matches; who = table.who ++ place_in names x.name ∷ []; entries = table.entries ++ unnamed x ∷ [] }
+
+abbrev pub table_allows : Payoffs → List (List ℕ) → Table → Line → Bool
+table_allows game names table (lines.Match m) = match_fits game table m
+table_allows game names table (lines.Entry x) = entry_fits names table x
+table_allows game names table lines.End = is_whole names table
+table_allows _ _ _ _ = false
+
+-- what a line behind those of a table leaves
+abbrev pub after_table : Payoffs → FlipRate → List (List ℕ) → Table → Line → State
+after_table game noise names table (lines.Match m) =
+    states.InBody game noise (names_with_match names m) (parts.Tournament (with_match names table m))
+after_table game noise names table (lines.Entry x) =
+    states.InBody game noise (with_name names x.name) (parts.Tournament (with_entry names table x))
+after_table game noise names table lines.End =
+    states.Ended game noise names (bodies.Tournament table.matches table.who table.entries)
+after_table game noise names table _ = states.InBody game noise names (parts.Tournament table)

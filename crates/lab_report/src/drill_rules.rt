@@ -1,0 +1,95 @@
+//! What may follow in the report of a drill.
+ghost use Rattle.std.specs.Prelude.{◌≡◌, ◌<◌, ◌-◌, ◌^◌, length, IfOk, OnOk};
+ghost use Rattle.lab_report.specs.DrillRules.{HasDrillRoom, after_drill, drill_allows, with_first};
+ghost use Rattle.lab_report.specs.Names.{with_name};
+ghost use Rattle.lab_report.specs.Valid.{drill_game};
+ghost use Rattle.history_model.specs.Noise.{no_noise};
+
+use crate::state::{DrillSoFar, State};
+use crate::{Body, Leaders, Names};
+use history_model::{Game, NoMemory, Noise};
+use report_lines::{Line, ShownFirst};
+use std::alloc::Global;
+
+/// The game of every drill.
+pub(crate) fn drill_game() -> Game
+    ensures { result ≡ drill_game }
+{
+    Game {
+        r: 3,
+        s: 0,
+        t: 5,
+        p: 1,
+    }
+}
+
+/// The noise of every drill: no move is flipped.
+pub(crate) fn no_noise() -> Noise
+    ensures { result ≡ no_noise }
+{
+    Noise { n: 0, e: 1 }
+}
+
+/// Whether a line may stand behind those of a drill.
+pub(crate) fn drill_allows(drill: &DrillSoFar, next: &Line) -> bool
+    ensures { result ≡ drill_allows drill.now next.now }
+{
+    match (drill, next) {
+        (DrillSoFar::Begun, Line::Drill(_)) => true,
+        (DrillSoFar::Numbered { first, .. }, Line::First(_)) => first.as_slice().len() < 64,
+        (DrillSoFar::Numbered { .. }, Line::Total(_)) => true,
+        (DrillSoFar::Summed { .. }, Line::End) => true,
+        _ => false,
+    }
+}
+
+// The machines with one more, whose name comes behind all others where it is new.
+fn with_first(names: &mut Names, first: Leaders, found: &ShownFirst) -> Result<Leaders, NoMemory>
+    requires { length names.old < 2 ^ 32 - 1 }
+    ensures first { IfOk result (λ more. more ≡ with_first names.old first found.now) }
+    ensures names { OnOk result (names.new ≡ with_name names.old found.now.name) }
+{
+    let place = names.place(&found.name)?;
+    let mut items = first.into_vec();
+    items.push((place, found.total))?;
+    Ok(Leaders::from_vec(items))
+}
+
+/// What a line behind those of a drill leaves.
+pub(crate) fn after_drill(
+    alloc: Global,
+    mut names: Names,
+    drill: DrillSoFar,
+    next: Line,
+) -> Result<State, NoMemory>
+    requires { HasDrillRoom names drill }
+    ensures { IfOk result (λ state. state ≡ after_drill names drill next) }
+{
+    match (drill, next) {
+        (DrillSoFar::Begun, Line::Drill(number)) => {
+            let first = Leaders::from_vec(Vec::new(alloc));
+            Ok(State::InDrill {
+                names,
+                drill: DrillSoFar::Numbered { number, first },
+            })
+        }
+        (DrillSoFar::Numbered { number, first }, Line::First(found)) => {
+            let first = with_first(&mut names, first, &found)?;
+            Ok(State::InDrill {
+                names,
+                drill: DrillSoFar::Numbered { number, first },
+            })
+        }
+        (DrillSoFar::Numbered { number, first }, Line::Total(sum)) => Ok(State::InDrill {
+            names,
+            drill: DrillSoFar::Summed { number, first, sum },
+        }),
+        (DrillSoFar::Summed { number, first, sum }, Line::End) => Ok(State::Ended {
+            game: drill_game(),
+            noise: no_noise(),
+            names,
+            body: Body::Drill { number, first, sum },
+        }),
+        (drill, _) => Ok(State::InDrill { names, drill }),
+    }
+}

@@ -1,0 +1,84 @@
+//! The largest report of a tournament, read and written.
+ghost use Rattle.std.specs.Prelude.{◌<◌, IfOk};
+ghost use Rattle.lab_report.specs.Valid.{IsValid};
+
+use lab_report::{Body, Report, ReportError, read_report, write_report};
+use std::alloc::Global;
+use std::fmt::Write;
+use std::test::Fail;
+
+// The matches of an entry, of one turn each: it wins against each entry behind it.
+fn push_matches(text: &mut String, left: u32) -> Result<(), Fail>
+    requires { left < 64 }
+{
+    write!(
+        text,
+        "match|e{left}|e{left}|1|3.000000000000|3.000000000000|level|sure|1|1|1|0|0|0\n"
+    )?;
+    for right in left + 1..64 {
+        write!(
+            text,
+            "match|e{left}|e{right}|1|5.000000000000|0.000000000000|left|sure|0|1|0|0|1|0\n"
+        )?;
+    }
+    Ok(())
+}
+
+// A tournament of 64 entries, each of which meets each.
+fn largest(alloc: Global) -> Result<String, Fail> {
+    let mut text = String::new(alloc);
+    text.push_str("axlab|1|tournament\ngame|3|0|5|1|dilemma|yes\nnoise|0|1\n")?;
+    for left in 0..64u32 {
+        push_matches(&mut text, left)?;
+    }
+    for place in 0..64u32 {
+        let wins = 63 - place;
+        let points = 5 * wins + 3;
+        let rank = place + 1;
+        write!(
+            text,
+            "entry|e{place}|{points}.000000000000|{rank}|{wins}|0\n"
+        )?;
+    }
+    text.push_str("end\n")?;
+    Ok(text)
+}
+
+fn read(alloc: Global, bytes: &[u8]) -> Result<Report, ReportError>
+    ensures { IfOk result IsValid }
+{
+    if bytes.len() < 1_000_000 {
+        read_report(alloc, bytes)
+    } else {
+        Err(ReportError::NoMemory)
+    }
+}
+
+#[test]
+fn the_largest_goes_both_ways(rt: HostRuntime) -> Result<(), Fail> {
+    let text = largest(rt.alloc())?;
+    let report = read(rt.alloc(), text.as_bytes())?;
+    let bytes = write_report(rt.alloc(), &report)?;
+    assert_eq!(rt; bytes.as_slice(), text.as_bytes());
+    let again = read(rt.alloc(), &bytes)?;
+    let (
+        Body::Tournament {
+            matches,
+            who,
+            entries,
+        },
+        Body::Tournament {
+            matches: same_matches,
+            who: same_who,
+            entries: same_entries,
+        },
+    ) = (&report.body, &again.body)
+    else {
+        return Err(Fail::from("no tournament"));
+    };
+    assert_eq!(rt; matches.as_slice().len(), 2080);
+    assert_eq!(rt; matches.as_slice(), same_matches.as_slice());
+    assert_eq!(rt; who.as_slice(), same_who.as_slice());
+    assert_eq!(rt; entries.as_slice(), same_entries.as_slice());
+    Ok(())
+}

@@ -1,0 +1,121 @@
+-- The players of all matches were asked.
+use Rattle.std.proofs.Common.{◌≡◌, ◌⊎◌, ◌↔◌, inl, inr, ℕ, ◌+◌, ◌<◌, ◌≤◌, Bool, true, false, IsTrue, List, [], ◌∷◌, ◌++◌, length, take, refl, sym, ◌∙◌, ap, subst, arith}
+use Rattle.std.specs.List.{sum}
+use Rattle.std.proofs.lemmas.List.{take_more}
+use Rattle.player_core.specs.Counts.{IsFull, NoneFell}
+use Rattle.product_chain.specs.Expected.{IsSureMatch}
+use Rattle.round_robin.specs.Asked.{Turns, MadeTurns, IsAsked, NoTurnsFell, AsksFor, AskFor, PairAsked, AreAsked, AtMostTurns, most_of, most_for}
+use Rattle.round_robin.specs.Contest.{Strategy, strategy_at, pair_at, IsSurePair}
+
+-- ---- one match
+
+decided : (sure : Bool) (P : Type 0) → (IsTrue sure ↔ P) → P ⊎ (P → ⊥)
+decided true P tells = inl (tells.0 refl)
+decided false P tells = inr (λ p. let wrong : false ≡ true = tells.1 p in cc)
+
+asked_for : (a b : Strategy) (turns n : ℕ) (before now : Turns)
+    → IsSureMatch a.automaton a.noise b.automaton b.noise ⊎ (IsSureMatch a.automaton a.noise b.automaton b.noise → ⊥)
+    → IsAsked a.automaton a.noise b.automaton b.noise turns before now → AsksFor a b turns n → MadeTurns n before now
+asked_for a b turns n before now (inl sure) asked asks =
+    let want = asks.sure sure in
+    let P : ℕ → Type 0 = λ m. MadeTurns m before now in
+    subst P (sym want.2) (asked.played sure want.0 want.1)
+asked_for a b turns n before now (inr unsure) asked asks =
+    let P : ℕ → Type 0 = λ m. MadeTurns m before now in subst P (sym (asks.unsure unsure)) (asked.read unsure)
+
+pub pair_asked : (strategies : List Strategy) (pair : ℕ × ℕ) (turns : ℕ) (a b : Strategy) (sure : Bool) (before now : Turns)
+    → strategy_at strategies pair.0 ≡ a → strategy_at strategies pair.1 ≡ b → (IsTrue sure ↔ IsSurePair strategies pair)
+    → IsAsked a.automaton a.noise b.automaton b.noise turns before now → PairAsked strategies turns pair before now
+pair_asked strategies pair turns a b sure before now left right tells asked =
+    let l = strategy_at strategies pair.0 in
+    let r = strategy_at strategies pair.1 in
+    let P : Strategy → Type 0 = λ s. IsAsked s.automaton s.noise b.automaton b.noise turns before now in
+    let Q : Strategy → Type 0 = λ s. IsAsked l.automaton l.noise s.automaton s.noise turns before now in
+    let here = subst Q (sym right) (subst P (sym left) asked) in
+    record {
+      least = λ n asks. asked_for l r turns n before now (decided sure (IsSurePair strategies pair) tells) here asks;
+      most = here.most;
+    }
+
+-- ---- match after match
+
+full_stays : (old new : List ℕ) → NoneFell old new → IsFull old → IsFull new
+full_stays old new fell full =
+    (full.0, omega (arith, fell.length_is, full.1), omega (arith, fell.grown full.0, full.2))
+
+pub none_fell : (before : Turns) → NoTurnsFell before before
+none_fell before = record { left = record { length_is = refl; grown = λ k. omega arith }; right = record { length_is = refl; grown = λ k. omega arith } }
+
+both_fell : (first second third : List ℕ) → NoneFell first second → NoneFell second third → NoneFell first third
+both_fell first second third h i = record { length_is = i.length_is ∙ h.length_is; grown = λ k. omega (arith, h.grown k, i.grown k) }
+
+pub fell_more : (before mid now : Turns) → NoTurnsFell before mid → NoTurnsFell mid now → NoTurnsFell before now
+fell_more before mid now h i = record { left = both_fell _ _ _ h.left i.left; right = both_fell _ _ _ h.right i.right }
+
+made_more : (m k : ℕ) (before mid now : Turns) → MadeTurns m before mid → MadeTurns k mid now → NoTurnsFell mid now → MadeTurns (m + k) before now
+made_more m k before mid now (inr (inl full)) more fell = inr (inl (full_stays _ _ fell.left full))
+made_more m k before mid now (inr (inr full)) more fell = inr (inr (full_stays _ _ fell.right full))
+made_more m k before mid now (inl made) (inl more) fell = inl (omega (arith, made, more))
+made_more m k before mid now (inl made) (inr full) fell = inr full
+
+-- what matches ask for, with one more behind them
+record AskMore (strategies : List Strategy) (turns : ℕ) (pairs : List (ℕ × ℕ)) (pair : ℕ × ℕ) (n : ℕ) : Type 0 where
+  first : ℕ
+  last : ℕ
+  firsts_ask : AskFor strategies turns pairs first
+  last_asks : AsksFor (strategy_at strategies pair.0) (strategy_at strategies pair.1) turns last
+  together : n ≡ first + last
+
+ask_more : (strategies : List Strategy) (turns : ℕ) (pairs : List (ℕ × ℕ)) (pair : ℕ × ℕ) (n : ℕ) → AskFor strategies turns (pairs ++ pair ∷ []) n
+    → AskMore strategies turns pairs pair n
+ask_more strategies turns [] pair n h =
+    record { first = 0; last = h.0; firsts_ask = refl; last_asks = h.2; together = omega (arith, h.3, h.4) }
+ask_more strategies turns (p ∷ ps) pair n h =
+    let m = ask_more strategies turns ps pair h.1 h.3 in
+    record {
+      first = h.0 + m.first;
+      last = m.last;
+      firsts_ask = (h.0, m.first, h.2, m.firsts_ask, refl);
+      last_asks = m.last_asks;
+      together = omega (arith, h.4, m.together);
+    }
+
+pub none_asked : (strategies : List Strategy) (turns : ℕ) (before : Turns) → AreAsked strategies turns [] before before
+none_asked strategies turns before = record {
+  least = λ n none. inl (omega (arith, none));
+  most = record { left = inl (omega arith); right = inl (omega arith) };
+}
+
+-- no more than so many, with one match more
+
+some_more : (m k : ℕ) (old mid new : List ℕ) → NoneFell mid new → (sum mid ≤ sum old + m) ⊎ IsFull mid → (sum new ≤ sum mid + k) ⊎ IsFull new
+    → (sum new ≤ sum old + (m + k)) ⊎ IsFull new
+some_more m k old mid new fell (inr full) more = inr (full_stays mid new fell full)
+some_more m k old mid new fell (inl few) (inr full) = inr full
+some_more m k old mid new fell (inl few) (inl more) = inl (omega (arith, few, more))
+
+most_more : (m k : ℕ) (before mid now : Turns) → AtMostTurns m before mid → AtMostTurns k mid now → NoTurnsFell mid now → AtMostTurns (m + k) before now
+most_more m k before mid now so_far here fell = record {
+  left = some_more m k before.left mid.left now.left fell.left so_far.left here.left;
+  right = some_more m k before.right mid.right now.right fell.right so_far.right here.right;
+}
+
+most_push : (strategies : List Strategy) (pairs : List (ℕ × ℕ)) (pair : ℕ × ℕ) → most_for strategies (pairs ++ pair ∷ []) ≡ most_for strategies pairs + most_of strategies pair
+most_push strategies [] pair = omega arith
+most_push strategies (p ∷ ps) pair = let rest = most_push strategies ps pair in omega (arith, rest)
+
+pub asked_more : (strategies : List Strategy) (turns k : ℕ) (pairs : List (ℕ × ℕ)) (before mid now : Turns) → k < length pairs
+    → AreAsked strategies turns (take k pairs) before mid → PairAsked strategies turns (pair_at pairs k) mid now → NoTurnsFell mid now
+    → AreAsked strategies turns (take (k + 1) pairs) before now
+asked_more strategies turns k pairs before mid now inside so_far here fell =
+    let cut = take_more pairs k (0, 0) inside in
+    let R : ℕ → Type 0 = λ n. AtMostTurns n before now in
+    record {
+      least = λ n asks.
+          let P : List (ℕ × ℕ) → Type 0 = λ ps. AskFor strategies turns ps n in
+          let m = ask_more strategies turns (take k pairs) (pair_at pairs k) n (subst P cut asks) in
+          let Q : ℕ → Type 0 = λ all. MadeTurns all before now in
+          subst Q (sym m.together) (made_more m.first m.last before mid now (so_far.least m.first m.firsts_ask) (here.least m.last m.last_asks) fell);
+      most = subst R (sym (ap (most_for strategies) cut ∙ most_push strategies (take k pairs) (pair_at pairs k)))
+          (most_more (most_for strategies (take k pairs)) (most_of strategies (pair_at pairs k)) before mid now so_far.most here.most fell);
+    }

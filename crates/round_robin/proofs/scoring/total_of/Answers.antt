@@ -1,0 +1,6 @@
+use Rattle.round_robin.proofs.Summing.{summed_more}
+use Rattle.round_robin.proofs.scoring.total_of.Goals as goal
+
+pub loop-line-preserved : goal.loop-line-preserved
+loop-line-preserved c =
+    summed_more _ _ _ _ _ _ _ c.loop-line-test.true c.requires.scores c.line-item.is c.own_score.ensures c.add-total.ensures.sum c.loop-line.invariant
