@@ -22,7 +22,12 @@ use Rattle.round_robin.specs.declared.contestant.Contestant.{Contestant}
 use Rattle.round_robin.specs.Contest.{Strategy, IsContestant, AreContestants, IsPair, ArePairs, IsSureStrategy, IsSurePair, AreFewTurns, no_strategy, strategy_at, strategy_of, strategies_of}
 use Rattle.axlab_core.specs.Contestants.{entrant_of, entrants_of}
 use Rattle.axlab_core.specs.Entrants.{Entrant}
-use Rattle.axlab_core.specs.Machines.{AreMachines, AreStill, still}
+use Rattle.lab_report.specs.Valid.{drill_game}
+use Rattle.lab_file.specs.Tournament.{TournamentsAscend, tournament_pairs}
+use Rattle.round_robin.specs.Asked.{Turns, AreAsked}
+use Rattle.round_robin.specs.Totals.{AreLines, entries_of}
+use Rattle.axlab_core.specs.Machines.{AreMachines, AreStill, drill_job, drill_pairs, machine_strategies, still}
+use Rattle.axlab_core.proofs.Contesting.{are_pairs_of, same_strategies}
 use Rattle.axlab_core.specs.RightTournament.{strategy_of_entrant}
 
 -- ---- machines are sure
@@ -109,3 +114,47 @@ module _ (players : List Lasting) (sheets : List SheetData) (contestants : List 
     sure = λ s. omega (arith, few);
     unsure = λ not_sure. absurd (not_sure (pair_is_sure (get_or pairs k d) (are_pairs.each k d inside)));
   }
+
+-- ---- on the bench
+
+-- what is known where the matches of machines are played: the contestants, and the pairs that were made of them
+pub record ArePlayed (sheets : List SheetData) (contestants : List Contestant) (pairs : List (ℕ × ℕ)) : Type 0 where
+  pub machines : AreMachines sheets
+  pub still : AreStill sheets contestants
+  pub pairs_are : pairs ≡ tournament_pairs drill_job (length sheets)
+
+module _ (players right : List Lasting) (fits : Fits players right) (sheets : List SheetData) (contestants : List Contestant) (pairs : List (ℕ × ℕ)) (p : ArePlayed sheets contestants pairs) where
+  pub many_contestants : length contestants ≡ 64
+  many_contestants = sym (length-map contestants entrant_of) ∙ ap length p.still.entrants ∙ length-map sheets still ∙ p.machines.many
+
+  pub strategies_are : strategies_of players contestants ≡ machine_strategies players sheets
+  strategies_are = same_strategies players contestants ∙ ap (map (strategy_of_entrant players)) p.still.entrants
+
+  pub pairs_same : pairs ≡ drill_pairs
+  unfolding drill_pairs
+  pairs_same = p.pairs_are ∙ ap (tournament_pairs drill_job) p.machines.many
+
+  pub known_contestants : AreContestants players contestants
+  known_contestants = are_contestants players sheets contestants p.machines p.still
+
+  pub known_pairs : TournamentsAscend → ArePairs (length contestants) pairs
+  known_pairs law = are_pairs_of law drill_job (length sheets) (length contestants) pairs (many_contestants ∙ sym p.machines.many) p.pairs_are
+
+  pub known_turns : TournamentsAscend → All (AreFewTurns (strategies_of players contestants) drill_job.turns) pairs
+  known_turns law =
+      are_few_turns players sheets contestants p.machines p.still pairs drill_job.turns (omega arith)
+      (are_pairs_of law drill_job (length sheets) 64 pairs (sym p.machines.many) p.pairs_are)
+
+  pub lines_known : (lines : List MatchLine) → AreLines (strategies_of players contestants) drill_game drill_job.turns pairs lines
+      → AreLines (machine_strategies players sheets) drill_game drill_job.turns drill_pairs lines
+  lines_known lines made =
+      let P : List Strategy → Type 0 = λ ss. AreLines ss drill_game drill_job.turns drill_pairs lines in
+      let Q : List (ℕ × ℕ) → Type 0 = λ ps. AreLines (strategies_of players contestants) drill_game drill_job.turns ps lines in
+      subst P strategies_are (subst Q pairs_same made)
+
+  pub asked_known : (before now : Turns) → AreAsked (strategies_of players contestants) drill_job.turns pairs before now
+      → AreAsked (machine_strategies players sheets) drill_job.turns drill_pairs before now
+  asked_known before now asked =
+      let P : List Strategy → Type 0 = λ ss. AreAsked ss drill_job.turns drill_pairs before now in
+      let Q : List (ℕ × ℕ) → Type 0 = λ ps. AreAsked (strategies_of players contestants) drill_job.turns ps before now in
+      subst P strategies_are (subst Q pairs_same asked)

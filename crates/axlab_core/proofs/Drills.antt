@@ -69,6 +69,7 @@ module _ (lines_hold : LinesHold) (players : List Lasting) (sheets : List SheetD
   many = length-map (map still sheets) (strategy_of_entrant players) ∙ length-map sheets still ∙ are.many
 
   pairs_are : ArePairs 64 drill_pairs
+  unfolding drill_pairs
   pairs_are = are_pairs law drill_job 64
 
   strategy_is : (k : ℕ) (s : SheetData) → k < 64 → strategy_at (machine_strategies players sheets) k ≡ strategy_of_entrant players (still (get_or sheets k s))
@@ -150,6 +151,7 @@ module _ (lines_hold : LinesHold) (players : List Lasting) (sheets : List SheetD
         ∙ sym (ap (λ a. G a (entrant_at (map still sheets) j)) (entrant_is i s left_inside) ∙ ap (G own) (entrant_is j s right_inside))
 
     totals_there : true_totals (expects_of (machine_strategies players sheets) drill_game drill_job.turns) drill_pairs 64 ≡ machine_totals players sheets
+    unfolding machine_totals
     totals_there = same_totals _ _ 64 expects_there drill_pairs pairs_are.each
 
     -- whether an entry is told to be first is whether it truly is
@@ -183,6 +185,7 @@ module _ (lines_hold : LinesHold) (players : List Lasting) (sheets : List SheetD
 
       -- the entries that are told are those of the first rank
       pub first_are : first_of entries ≡ map (total_at entries) (first_places (machine_totals players sheets))
+      unfolding first_places
       first_are =
           let told : ℕ → Bool = λ place. is_first (line_at entries place).rank in
           let truly : ℕ → Bool = λ place. true_rank (machine_totals players sheets) place == 1 in
@@ -205,6 +208,7 @@ module _ (lines_hold : LinesHold) (players : List Lasting) (sheets : List SheetD
 
       -- each with its true total
       pub totals_are : AllZip (λ line place. IsWhole line.1 (get_or (machine_totals players sheets) place nothing)) (first_of entries) (first_places (machine_totals players sheets))
+      unfolding first_places
       totals_are =
           let P : List (ℕ × ℤ) → Type 0 = λ first. AllZip (λ line place. IsWhole line.1 (get_or (machine_totals players sheets) place nothing)) first (first_places (machine_totals players sheets)) in
           subst P (sym first_are)

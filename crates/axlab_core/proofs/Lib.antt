@@ -1,7 +1,9 @@
 pub mod ByRule
 pub mod Completeness
 pub mod Contesting
+pub mod DrillLoops
 pub mod DrillReports
+pub mod Drilled
 pub mod Drilling
 pub mod Drills
 pub mod Entries
@@ -9,7 +11,7 @@ pub mod Loading
 pub mod Noting
 pub mod Points
 pub mod Reports
-pub mod Sending
+pub mod SentUpTo
 pub mod Showing
 pub mod TableLines
 pub mod Tables

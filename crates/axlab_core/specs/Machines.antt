@@ -25,7 +25,8 @@ use Rattle.axlab_core.specs.RightTournament.{entrant_at, strategy_of_entrant}
 abbrev pub drill_job : TournamentJob
 drill_job = record { turns = 1000000000; self_play = false; edges = None }
 
-abbrev pub drill_pairs : List (ℕ × ℕ)
+-- the matches of the drill, each machine with each other one
+unfoldable pub drill_pairs : List (ℕ × ℕ)
 drill_pairs = tournament_pairs drill_job 64
 
 -- 64 sheets of machines
@@ -55,11 +56,11 @@ machine_expects players sheets i j =
     expects_in players drill_game drill_job.turns (entrant_at (map still sheets) i) (entrant_at (map still sheets) j)
 
 -- the true totals of all machines
-abbrev pub machine_totals : List Lasting → List SheetData → List Fraction
+unfoldable pub machine_totals : List Lasting → List SheetData → List Fraction
 machine_totals players sheets = true_totals (machine_expects players sheets) drill_pairs 64
 
 -- the places of the first rank, in order
-abbrev pub first_places : List Fraction → List ℕ
+unfoldable pub first_places : List Fraction → List ℕ
 first_places totals = filter (λ place. true_rank totals place == 1) (range_with_len 0 64)
 
 abbrev pub sum_of : List Fraction → Fraction

@@ -2,7 +2,7 @@
 //! the report.
 #![tactic(auto)]
 
-mod drill;
+mod drill_job;
 mod load;
 mod matches;
 mod run;

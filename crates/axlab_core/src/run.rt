@@ -21,7 +21,7 @@ ghost use Rattle.axlab_core.specs.WordList.{word_list};
 ghost use Rattle.axlab_core.specs.Words.{form_of, lab_name, needs_lab};
 ghost use Rattle.axlab_core.specs.declared.words.Form.TheVariants as forms;
 
-use crate::drill::drill;
+use crate::drill_job::drill;
 use crate::load::{LoadError, load_lab};
 use crate::matches::lab_match;
 use crate::sending::{SendError, send_report};

@@ -19,9 +19,9 @@ use std::alloc::Global;
 /// The matches of the pairs of a tournament of 1 to 64 contestants, in the order of the pairs, and what
 /// the contestants make of them. A pair has the places of two contestants, the smaller first; the pairs
 /// are in strictly ascending order. Each match is between the players that take the two sheets: a sure
-/// one, of at most 10^12 turns, is followed until its pairs of rows come again, and of any other, of at most 10,000, both players are read.
-/// All other players stay as they are, so the bench goes on fitting with the same plugs, also without
-/// memory.
+/// one, of at most 10^12 turns, is followed until a pair of rows comes again, and of any other, of at
+/// most 10,000 turns, both players are read. All other players stay as they are, so the bench goes on
+/// fitting with the same plugs, also without memory.
 ///
 /// # Errors
 ///

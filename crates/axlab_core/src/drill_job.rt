@@ -1,5 +1,5 @@
 //! The drill of a number: who is first among machines that are drawn from it.
-ghost use Rattle.std.specs.Prelude.{◌≡◌, ◌≤◌, All, length, map, IfOk};
+ghost use Rattle.std.specs.Prelude.{◌≡◌, ◌<◌, ◌≤◌, All, length, map, IfOk};
 ghost use Rattle.std.specs.List.{range_with_len};
 ghost use Rattle.history_model.specs.Noise.{no_noise};
 ghost use Rattle.player_core.specs.State.{lasting_of};
@@ -10,7 +10,7 @@ ghost use Rattle.round_robin.specs.Totals.{AreLines, entries_of};
 ghost use Rattle.lab_report.specs.Text.{report_text};
 ghost use Rattle.lab_report.specs.Valid.{IsValid, drill_game};
 ghost use Rattle.drill.specs.Drill.{drill_name};
-ghost use Rattle.axlab_core.specs.Machines.{AreMachines, AreStill, IsSmallTotal, drill_job, drill_pairs, first_of, is_first, machine_strategies, sum_of_totals};
+ghost use Rattle.axlab_core.specs.Machines.{AreMachines, AreStill, IsSmallTotal, drill_job, drill_pairs, first_of, is_first, line_at, machine_strategies, sum_of_totals, total_at};
 ghost use Rattle.axlab_core.specs.RightDrill.{IsRightDrill, IsAskedDrill};
 ghost use Rattle.axlab_core.specs.Sides.{KeepsBench};
 
@@ -57,7 +57,7 @@ fn results(alloc: Global, sheets: &[Sheet], bench: &mut Bench) -> Result<Totals,
     requires fits { Fits (lasting_of (⟦<Side as Seats>⟧.seats bench.old.left)) (lasting_of (⟦<Side as Seats>⟧.seats bench.old.right)) }
     requires machines { AreMachines sheets.now }
     ensures lines { IfOk result (λ totals. AreLines (machine_strategies (lasting_of (⟦<Side as Seats>⟧.seats bench.old.left)) sheets.now) drill_game drill_job.turns drill_pairs totals.matches) }
-    ensures entries { IfOk result (λ totals. totals.entries ≡ entries_of 64 totals.matches) }
+    ensures entries { IfOk result (λ totals. totals.entries ≡ entries_of (length sheets.now) totals.matches) }
     ensures asked { IfOk result (λ _. AreAsked (machine_strategies (lasting_of (⟦<Side as Seats>⟧.seats bench.old.left)) sheets.now) drill_job.turns drill_pairs (record { left = turns_of (⟦<Side as Seats>⟧.seats bench.old.left); right = turns_of (⟦<Side as Seats>⟧.seats bench.old.right) }) (record { left = turns_of (⟦<Side as Seats>⟧.seats bench.new.left); right = turns_of (⟦<Side as Seats>⟧.seats bench.new.right) })) }
     ensures kept { KeepsBench (lasting_of (⟦<Side as Seats>⟧.seats bench.old.left)) (lasting_of (⟦<Side as Seats>⟧.seats bench.old.right)) (lasting_of (⟦<Side as Seats>⟧.seats bench.new.left)) (lasting_of (⟦<Side as Seats>⟧.seats bench.new.right)) }
 {
@@ -75,8 +75,8 @@ fn results(alloc: Global, sheets: &[Sheet], bench: &mut Bench) -> Result<Totals,
         edges: None,
     };
     let contestants = contestants(alloc, sheets, &noise)?;
-    let pairs = job.pairs(alloc, MACHINES)?;
-    let results = totals(alloc, bench, &contestants, &pairs, &game, TURNS)?;
+    let pairs = job.pairs(alloc, sheets.len() as u32)?;
+    let results = totals(alloc, bench, &contestants, &pairs, &game, job.turns)?;
     Ok(results)
 }
 
@@ -86,6 +86,23 @@ fn is_first(rank: Rank) -> bool
     rank == Rank::At(1)
 }
 
+// Whether the entry at a place is of the first rank.
+fn leads(entries: &[EntryLine], place: u32) -> bool
+    requires { place < length entries.now }
+    ensures { result ≡ is_first (line_at entries.now place).rank }
+{
+    is_first(entries[place as usize].rank)
+}
+
+// The place and the total of an entry.
+fn total_at(entries: &[EntryLine], place: u32) -> (u32, i128)
+    requires { place < length entries.now }
+    ensures { result ≡ total_at entries.now place }
+{
+    let (total, _) = entries[place as usize].total.ends();
+    (place, total)
+}
+
 // The entries of the first rank, in order, each with its total.
 fn first_of(alloc: Global, entries: &[EntryLine]) -> Result<Vec<(u32, i128)>, NoMemory>
     requires { length entries.now ≤ 64 }
@@ -93,9 +110,8 @@ fn first_of(alloc: Global, entries: &[EntryLine]) -> Result<Vec<(u32, i128)>, No
 {
     let mut first: Vec<(u32, i128)> = Vec::new(alloc);
     for place in 0..entries.len() as u32 {
-        let entry = &entries[place as usize];
-        if is_first(entry.rank) {
-            first.push((place, entry.total.ends().0))?;
+        if leads(entries, place) {
+            first.push(total_at(entries, place))?;
         }
     }
     Ok(first)

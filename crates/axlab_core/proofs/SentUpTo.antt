@@ -1,7 +1,9 @@
 -- What a sink has taken of a text that is sent by pieces.
-use Rattle.std.proofs.Common.{◌≡◌, ℕ, ◌+◌, ◌≤◌, ◌<◌, min, List, [], ◌∷◌, ◌++◌, length, take, drop, Option, Some, None, refl, sym, ◌∙◌, ap, arith}
+use Rattle.std.proofs.Common.{◌≡◌, ℕ, ◌+◌, ◌≤◌, ◌<◌, min, Bool, true, false, List, [], ◌∷◌, ◌++◌, length, take, drop, Option, Some, None, refl, sym, ◌∙◌, ap, arith}
+use Rattle.std.specs.Prelude.{◌↔◌}
 use Rattle.std.proofs.Math.Seq.{take-add}
 use Rattle.std.proofs.lemmas.List.{length-take, length-drop, take-take, drop-drop, take-append-drop}
+use Rattle.lab_ports.specs.Causes.{Rose}
 use Rattle.lab_ports.specs.Holding.{Grew, GrewByPart}
 use Rattle.lab_ports.proofs.Grown.{grew_more}
 use Rattle.axlab_core.specs.Right.{GrewByFront}
@@ -54,3 +56,15 @@ part_sent n before mid now text to_come piece so_far front part =
 -- a front part, where memory is wanted
 pub front_sent : (n : ℕ) (before now : Option (List ℕ)) (text to_come : List ℕ) → IsSentUpTo n before now text to_come → GrewByFront before now text
 front_sent n before now text to_come so_far = (n, so_far.took)
+
+-- less is to come where there was a piece
+pub less_to_come : (some : Bool) (to_come left : List ℕ) → some ≡ true → (some ≡ false) ↔ (to_come ≡ []) → left ≡ drop 4096 to_come → length left < length to_come
+less_to_come some [] left is none rest = absurd (not_both some is (none.1 refl)) where
+  not_both : (b : Bool) → b ≡ true → b ≡ false → ⊥
+  not_both true e f = absurd cc
+  not_both false e f = absurd cc
+less_to_come some (x ∷ xs) left is none rest = omega (arith, ap length rest, length-drop 4096 (x ∷ xs))
+
+-- a count that rose in the last of some calls rose in all of them
+pub rose_since : (first before now : ℕ) → first ≤ before → Rose before now → Rose first now
+rose_since first before now later rose = omega (arith, later, rose)
