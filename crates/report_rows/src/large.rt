@@ -1,8 +1,9 @@
-//! The largest report of a tournament, read and written.
-ghost use Rattle.std.specs.Prelude.{◌<◌, IfOk};
-ghost use Rattle.lab_report.specs.Valid.{IsValid};
+//! The largest report of a tournament, read and written, at once and in pieces.
+ghost use Rattle.std.specs.Prelude.{◌<◌};
 
-use lab_report::{Body, Report, ReportError, read_report, write_report};
+use crate::pieces::check_pieces;
+use crate::shared::read;
+use lab_report::{Body, write_report};
 use std::alloc::Global;
 use std::fmt::Write;
 use std::test::Fail;
@@ -44,22 +45,13 @@ fn largest(alloc: Global) -> Result<String, Fail> {
     Ok(text)
 }
 
-fn read(alloc: Global, bytes: &[u8]) -> Result<Report, ReportError>
-    ensures { IfOk result IsValid }
-{
-    if bytes.len() < 1_000_000 {
-        read_report(alloc, bytes)
-    } else {
-        Err(ReportError::NoMemory)
-    }
-}
-
 #[test]
 fn the_largest_goes_both_ways(rt: HostRuntime) -> Result<(), Fail> {
     let text = largest(rt.alloc())?;
     let report = read(rt.alloc(), text.as_bytes())?;
     let bytes = write_report(rt.alloc(), &report)?;
     assert_eq!(rt; bytes.as_slice(), text.as_bytes());
+    check_pieces(rt.alloc(), &report, text.as_bytes())?;
     let again = read(rt.alloc(), &bytes)?;
     let (
         Body::Tournament {

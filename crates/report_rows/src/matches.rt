@@ -1,12 +1,9 @@
-//! Reports against texts that were worked out by hand.
-ghost use Rattle.std.specs.Prelude.{IfOk};
-ghost use Rattle.lab_report.specs.Valid.{IsValid};
-
-use crate::{Body, Names, Noises, Report, ReportError, match_report, read_report, write_report};
+//! Reports of matches against texts that were worked out by hand.
+use crate::shared::{changed, read};
 use fixed_span::Span;
 use history_model::{Game, Name, Noise, Tally};
+use lab_report::{Body, Names, Noises, ReportError, match_report, write_report};
 use match_play::MatchLine;
-use std::alloc::{AllocError, Global};
 use std::test::Fail;
 
 const SURE: [&str; 5] = [
@@ -24,31 +21,6 @@ const MIXED: [&str; 5] = [
     "match|A|A|250|500.000000000001..500.000000000002|500.000000000002..501.000000000000|undecided|mixed\n",
     "end\n",
 ];
-
-// The text of these lines, with another text in place of the one at a place.
-fn changed(
-    alloc: Global,
-    lines: &[&str; 5],
-    place: usize,
-    new: &str,
-) -> Result<String, AllocError> {
-    let mut text = String::new(alloc);
-    for (k, line) in lines.iter().enumerate() {
-        text.push_str(if k == place { new } else { line })?;
-    }
-    Ok(text)
-}
-
-// Reads a short text.
-fn read(alloc: Global, text: &String) -> Result<Report, ReportError>
-    ensures { IfOk result IsValid }
-{
-    if text.len() < 1000 {
-        read_report(alloc, text.as_bytes())
-    } else {
-        Err(ReportError::NoMemory)
-    }
-}
 
 #[test]
 fn writes_matches(rt: HostRuntime) -> Result<(), Fail> {
@@ -110,11 +82,11 @@ fn reads_what_it_writes(rt: HostRuntime) -> Result<(), Fail> {
         ),
     ] {
         let text = changed(rt.alloc(), lines, 5, "")?;
-        let report = read(rt.alloc(), &text)?;
+        let report = read(rt.alloc(), text.as_bytes())?;
         assert_eq!(rt; report.names.as_slice().len(), names);
         let line = match &report.body {
             Body::Match { line } => line,
-            Body::Tournament { .. } => return Err(Fail::from("a tournament")),
+            _ => return Err(Fail::from("no match")),
         };
         assert_eq!(rt; (line.left, line.right), (0, right));
         assert_eq!(rt; line.left_score, left_score);
@@ -167,7 +139,7 @@ fn refuses_the_first_bad_line(rt: HostRuntime) -> Result<(), Fail> {
         (4, "end\nx", 6),
     ] {
         let text = changed(rt.alloc(), &SURE, place, new)?;
-        match read(rt.alloc(), &text) {
+        match read(rt.alloc(), text.as_bytes()) {
             Ok(_) => return Err(Fail::from("read")),
             Err(error) => assert_eq!(rt; error, ReportError::BadLine(number), "at {new}"),
         }
