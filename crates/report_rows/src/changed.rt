@@ -1,7 +1,7 @@
 //! With each byte of a report changed in turn, `read_report` is to take the texts, and to refuse the
 //! lines, that the small reader does.
 use crate::reader::first_bad;
-use lab_report::{ReportError, read_report};
+use crate::shared::refused_line;
 use std::alloc::Global;
 use std::test::Fail;
 
@@ -21,18 +21,6 @@ const REPORTS: [&str; 6] = [
 const CHANGES: [&str; 14] = [
     "", "0", "1", "4", "9", "|", ".", "..", "\n", "\r", " ", "a", "~", "é",
 ];
-
-// The line that reading a short text refuses; 0 where it gives a report.
-fn refused_line(alloc: Global, text: &str) -> Result<u32, Fail> {
-    if text.len() > 1000 {
-        return Err(Fail::from("a long text"));
-    }
-    match read_report(alloc, text.as_bytes()) {
-        Ok(_) => Ok(0),
-        Err(ReportError::BadLine(number)) => Ok(number),
-        Err(ReportError::NoMemory) => Err(Fail::from("no memory")),
-    }
-}
 
 // Compares both readers where each change stands in place of the byte at a place.
 fn check_place(alloc: Global, text: &str, place: usize) -> Result<(), Fail> {

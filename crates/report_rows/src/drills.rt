@@ -1,8 +1,11 @@
 //! Reports of drills against texts that were worked out by hand.
+ghost use Rattle.std.specs.Prelude.{IfOk};
+ghost use Rattle.lab_report.specs.Valid.{IsValid};
+
 use crate::pieces::check_pieces;
-use crate::shared::{changed, read};
+use crate::shared::{changed, check_text, read, refused_line};
 use history_model::Name;
-use lab_report::{Body, ReportError, drill_report, write_report};
+use lab_report::{Body, Report, drill_report};
 use std::alloc::Global;
 use std::fmt::Write;
 use std::test::Fail;
@@ -17,6 +20,14 @@ const DRILL: [&str; 7] = [
     "total|9046445515680.500000000000\n",
     "end\n",
 ];
+
+// The greatest total.
+const MOST: i128 = 10_000_000_000_000_000_000_000_000_000_000_000_000;
+
+// The first total, and the sum of all.
+const TOTAL: i128 = 189_876_529_801_000_000_000_000;
+
+const SUM: i128 = 9_046_445_515_680_500_000_000_000;
 
 // Lines in place of one, and the line that is refused then; 0 where none is.
 const CHANGED: [(usize, &str, u32); 37] = [
@@ -63,55 +74,57 @@ const CHANGED: [(usize, &str, u32); 37] = [
     (6, "end\nx", 8),
 ];
 
+fn machine_names() -> Result<[Name; 3], Fail> {
+    Ok([
+        Name::read(b"d00").ok_or("no name")?,
+        Name::read(b"d03").ok_or("no name")?,
+        Name::read(b"d55").ok_or("no name")?,
+    ])
+}
+
+fn made(alloc: Global) -> Result<Report, Fail>
+    ensures { IfOk result IsValid }
+{
+    let names = machine_names()?;
+    let first = [(2, TOTAL), (1, 1), (2, MOST)];
+    Ok(drill_report(alloc, u64::MAX, &names, &first, SUM)?)
+}
+
 #[test]
 fn makes_drills(rt: HostRuntime) -> Result<(), Fail> {
-    let zeroth = Name::read(b"d00").ok_or("no name")?;
-    let third = Name::read(b"d03").ok_or("no name")?;
-    let last = Name::read(b"d55").ok_or("no name")?;
-    let first = [
-        (2, 189_876_529_801_000_000_000_000),
-        (1, 1),
-        (2, 10_000_000_000_000_000_000_000_000_000_000_000_000),
-    ];
-    let sum = 9_046_445_515_680_500_000_000_000;
-    let names = [zeroth, third, last];
-    let report = drill_report(rt.alloc(), u64::MAX, &names, &first, sum)?;
-    let bytes = write_report(rt.alloc(), &report)?;
+    let report = made(rt.alloc())?;
     let text = changed(rt.alloc(), &DRILL, 7, "")?;
-    assert_eq!(rt; bytes.as_slice(), text.as_bytes());
-    Ok(())
+    check_text(rt.alloc(), &report, text.as_str())
+}
+
+// Whether a report says what the text of the drill does.
+fn is_drill(report: &Report) -> bool {
+    match &report.body {
+        Body::Drill { number, first, sum } => {
+            report.names.as_slice().len() == 2
+                && *number == u64::MAX
+                && first.as_slice() == [(0, TOTAL), (1, 1), (0, MOST)].as_slice()
+                && *sum == SUM
+        }
+        _ => false,
+    }
 }
 
 #[test]
 fn drills_go_both_ways(rt: HostRuntime) -> Result<(), Fail> {
     let text = changed(rt.alloc(), &DRILL, 7, "")?;
     let report = read(rt.alloc(), text.as_bytes())?;
-    assert_eq!(rt; report.names.as_slice().len(), 2);
-    let Body::Drill { number, first, sum } = &report.body else {
-        return Err(Fail::from("no drill"));
-    };
-    assert_eq!(rt; *number, u64::MAX);
-    let lines = [
-        (0, 189_876_529_801_000_000_000_000),
-        (1, 1),
-        (0, 10_000_000_000_000_000_000_000_000_000_000_000_000),
-    ];
-    assert_eq!(rt; first.as_slice(), lines.as_slice());
-    assert_eq!(rt; *sum, 9_046_445_515_680_500_000_000_000);
-    let bytes = write_report(rt.alloc(), &report)?;
-    assert_eq!(rt; bytes.as_slice(), text.as_bytes());
-    Ok(())
+    if !is_drill(&report) {
+        return Err(Fail::from("another drill"));
+    }
+    check_text(rt.alloc(), &report, text.as_str())
 }
 
 #[test]
 fn refuses_the_first_bad_line(rt: HostRuntime) -> Result<(), Fail> {
     for (place, new, number) in CHANGED {
         let text = changed(rt.alloc(), &DRILL, place, new)?;
-        let refused = match read(rt.alloc(), text.as_bytes()) {
-            Ok(_) => 0,
-            Err(ReportError::BadLine(refused)) => refused,
-            Err(ReportError::NoMemory) => return Err(Fail::from("no memory")),
-        };
+        let refused = refused_line(rt.alloc(), text.as_str())?;
         assert_eq!(rt; refused, number, "at {new}");
     }
     Ok(())
@@ -132,17 +145,19 @@ fn crowd(alloc: Global, machines: u32) -> Result<String, Fail> {
 }
 
 #[test]
-fn a_drill_has_64_machines(rt: HostRuntime) -> Result<(), Fail> {
+fn takes_64_machines(rt: HostRuntime) -> Result<(), Fail> {
     let text = crowd(rt.alloc(), 64)?;
     let report = read(rt.alloc(), text.as_bytes())?;
-    assert_eq!(rt; report.names.as_slice().len(), 64);
-    check_pieces(rt.alloc(), &report, text.as_bytes())?;
+    check_text(rt.alloc(), &report, text.as_str())?;
+    check_pieces(rt.alloc(), &report, text.as_str())
+}
+
+#[test]
+fn refuses_the_65th_machine(rt: HostRuntime) -> Result<(), Fail> {
     let text = crowd(rt.alloc(), 65)?;
-    match read(rt.alloc(), text.as_bytes()) {
-        Ok(_) => Err(Fail::from("65 machines")),
-        Err(error) => {
-            assert_eq!(rt; error, ReportError::BadLine(67));
-            Ok(())
-        }
+    if refused_line(rt.alloc(), text.as_str())? == 67 {
+        Ok(())
+    } else {
+        Err(Fail::from("another line"))
     }
 }

@@ -1,9 +1,13 @@
 //! Reports of matches against texts that were worked out by hand.
-use crate::shared::{changed, read};
+ghost use Rattle.std.specs.Prelude.{IfOk};
+ghost use Rattle.lab_report.specs.Valid.{IsValid};
+
+use crate::shared::{changed, check_text, read, refused_line};
 use fixed_span::Span;
 use history_model::{Game, Name, Noise, Tally};
-use lab_report::{Body, Names, Noises, ReportError, match_report, write_report};
+use lab_report::{Body, Names, Noises, Report, match_report};
 use match_play::MatchLine;
+use std::alloc::Global;
 use std::test::Fail;
 
 const SURE: [&str; 5] = [
@@ -22,8 +26,52 @@ const MIXED: [&str; 5] = [
     "end\n",
 ];
 
-#[test]
-fn writes_matches(rt: HostRuntime) -> Result<(), Fail> {
+// Lines in place of one of the first text, and the line that is refused then.
+const CHANGED: [(usize, &str, u32); 19] = [
+    (0, "axlab|2|match\n", 1),
+    (0, "", 1),
+    (1, "game|03|0|5|1|dilemma|yes\n", 2),
+    (1, "game|3|0|5|1|dilemma|no\n", 2),
+    (1, "game|3|0|6|1|dilemma|no\n", 4),
+    (1, "drill|7|64|1000000000\n", 2),
+    (2, "noise|1|1\n", 3),
+    (2, "noise|0|1\r\n", 3),
+    (
+        3,
+        "match|A|B|6|12.000000000000|17.000000000000|left|sure|4|3|2|2|1|1\n",
+        4,
+    ),
+    (
+        3,
+        "match|A|B|6|12.000000000000|17.000000000000|right|sure|4|4|2|2|1|1\n",
+        4,
+    ),
+    (
+        3,
+        "match|A|B|7|12.000000000000|17.000000000000|right|sure|4|3|2|2|1|1\n",
+        4,
+    ),
+    (
+        3,
+        "match|A|B|6|13.000000000000|17.000000000000|right|sure|4|3|2|2|1|1\n",
+        4,
+    ),
+    (
+        3,
+        "match|A|B|6|2.000000000000|7.000000000000|right|mixed\nmatch|A|B|6|2.000000000000|7.000000000000|right|mixed\n",
+        5,
+    ),
+    (3, "total|1.000000000000\n", 4),
+    (3, "", 4),
+    (4, "", 5),
+    (4, "end", 5),
+    (4, "end\nend\n", 6),
+    (4, "end\nx", 6),
+];
+
+fn made(alloc: Global) -> Result<Report, Fail>
+    ensures { IfOk result IsValid }
+{
     let name = Name::read(b"Tit for Tat").ok_or("no name")?;
     let other = Name::read(b"Random").ok_or("no name")?;
     let line = MatchLine {
@@ -46,11 +94,14 @@ fn writes_matches(rt: HostRuntime) -> Result<(), Fail> {
         p: 1,
     };
     let noise = Noise { n: 0, e: 1 };
-    let report = match_report(rt.alloc(), &game, &noise, &name, &other, &line)?;
-    let bytes = write_report(rt.alloc(), &report)?;
+    Ok(match_report(alloc, &game, &noise, &name, &other, &line)?)
+}
+
+#[test]
+fn writes_matches(rt: HostRuntime) -> Result<(), Fail> {
+    let report = made(rt.alloc())?;
     let text = changed(rt.alloc(), &SURE, 5, "")?;
-    assert_eq!(rt; bytes.as_slice(), text.as_bytes());
-    Ok(())
+    check_text(rt.alloc(), &report, text.as_str())
 }
 
 #[test]
@@ -65,84 +116,46 @@ fn lists_go_both_ways(rt: HostRuntime) -> Result<(), Fail> {
     Ok(())
 }
 
+// Whether a report is of a match of its first name.
+fn shows(report: &Report, names: usize, right: u32, left_score: Span, sure: bool) -> bool {
+    match &report.body {
+        Body::Match { line } => {
+            report.names.as_slice().len() == names
+                && (line.left, line.right) == (0, right)
+                && line.left_score == left_score
+                && line.tally.is_some() == sure
+        }
+        _ => false,
+    }
+}
+
 #[test]
 fn reads_what_it_writes(rt: HostRuntime) -> Result<(), Fail> {
     let half = 500_000_000_000_000;
+    let mixed = Span {
+        lo: half + 1,
+        hi: half + 2,
+    };
     for (lines, names, right, left_score, sure) in [
         (&SURE, 2, 1, Span::point(12_000_000_000_000), true),
-        (
-            &MIXED,
-            1,
-            0,
-            Span {
-                lo: half + 1,
-                hi: half + 2,
-            },
-            false,
-        ),
+        (&MIXED, 1, 0, mixed, false),
     ] {
         let text = changed(rt.alloc(), lines, 5, "")?;
         let report = read(rt.alloc(), text.as_bytes())?;
-        assert_eq!(rt; report.names.as_slice().len(), names);
-        let line = match &report.body {
-            Body::Match { line } => line,
-            _ => return Err(Fail::from("no match")),
-        };
-        assert_eq!(rt; (line.left, line.right), (0, right));
-        assert_eq!(rt; line.left_score, left_score);
-        assert_eq!(rt; line.tally.is_some(), sure);
-        let bytes = write_report(rt.alloc(), &report)?;
-        assert_eq!(rt; bytes.as_slice(), text.as_bytes());
+        if !shows(&report, names, right, left_score, sure) {
+            return Err(Fail::from("another match"));
+        }
+        check_text(rt.alloc(), &report, text.as_str())?;
     }
     Ok(())
 }
 
 #[test]
 fn refuses_the_first_bad_line(rt: HostRuntime) -> Result<(), Fail> {
-    for (place, new, number) in [
-        (0, "axlab|2|match\n", 1),
-        (0, "", 1),
-        (1, "game|03|0|5|1|dilemma|yes\n", 2),
-        (1, "game|3|0|5|1|dilemma|no\n", 2),
-        (1, "game|3|0|6|1|dilemma|no\n", 4),
-        (2, "noise|1|1\n", 3),
-        (2, "noise|0|1\r\n", 3),
-        (
-            3,
-            "match|A|B|6|12.000000000000|17.000000000000|left|sure|4|3|2|2|1|1\n",
-            4,
-        ),
-        (
-            3,
-            "match|A|B|6|12.000000000000|17.000000000000|right|sure|4|4|2|2|1|1\n",
-            4,
-        ),
-        (
-            3,
-            "match|A|B|7|12.000000000000|17.000000000000|right|sure|4|3|2|2|1|1\n",
-            4,
-        ),
-        (
-            3,
-            "match|A|B|6|13.000000000000|17.000000000000|right|sure|4|3|2|2|1|1\n",
-            4,
-        ),
-        (
-            3,
-            "match|A|B|6|2.000000000000|7.000000000000|right|mixed\nmatch|A|B|6|2.000000000000|7.000000000000|right|mixed\n",
-            5,
-        ),
-        (3, "", 4),
-        (4, "", 5),
-        (4, "end", 5),
-        (4, "end\nend\n", 6),
-        (4, "end\nx", 6),
-    ] {
+    for (place, new, number) in CHANGED {
         let text = changed(rt.alloc(), &SURE, place, new)?;
-        match read(rt.alloc(), text.as_bytes()) {
-            Ok(_) => return Err(Fail::from("read")),
-            Err(error) => assert_eq!(rt; error, ReportError::BadLine(number), "at {new}"),
-        }
+        let refused = refused_line(rt.alloc(), text.as_str())?;
+        assert_eq!(rt; refused, number, "at {new}");
     }
     Ok(())
 }

@@ -2,8 +2,9 @@
 ghost use Rattle.std.specs.Prelude.{IfOk};
 ghost use Rattle.lab_report.specs.Valid.{IsValid};
 
-use lab_report::{Report, ReportError, read_report};
+use lab_report::{Report, ReportError, read_report, write_report};
 use std::alloc::{AllocError, Global};
+use std::test::Fail;
 
 /// The text of these lines, with another text in place of the one at a place.
 pub(crate) fn changed(
@@ -27,5 +28,26 @@ pub(crate) fn read(alloc: Global, bytes: &[u8]) -> Result<Report, ReportError>
         read_report(alloc, bytes)
     } else {
         Err(ReportError::NoMemory)
+    }
+}
+
+/// The line that reading a text refuses; 0 where it gives a report.
+pub(crate) fn refused_line(alloc: Global, text: &str) -> Result<u32, Fail> {
+    match read(alloc, text.as_bytes()) {
+        Ok(_) => Ok(0),
+        Err(ReportError::BadLine(number)) => Ok(number),
+        Err(ReportError::NoMemory) => Err(Fail::from("no memory")),
+    }
+}
+
+/// Checks that a report has this text.
+pub(crate) fn check_text(alloc: Global, report: &Report, text: &str) -> Result<(), Fail>
+    requires { IsValid report.now }
+{
+    let written = write_report(alloc, report)?;
+    if written.as_slice() == text.as_bytes() {
+        Ok(())
+    } else {
+        Err(Fail::from("another text"))
     }
 }

@@ -1,8 +1,13 @@
 //! The report of a tournament against its text, which was worked out by hand.
-use crate::shared::changed;
+ghost use Rattle.std.specs.Prelude.{◌≢◌, IfOk};
+ghost use Rattle.std.specs.List.{AllPairs};
+ghost use Rattle.lab_report.specs.Made.{AreResults};
+ghost use Rattle.lab_report.specs.Valid.{IsValid};
+
+use crate::shared::{changed, check_text};
 use fixed_span::Span;
 use history_model::{Game, Name, Noise};
-use lab_report::{tournament_report, write_report};
+use lab_report::{Report, tournament_report};
 use match_play::MatchLine;
 use round_robin::{EntryLine, EntryLines, MatchLines, Rank, Totals};
 use std::alloc::Global;
@@ -20,13 +25,19 @@ const TEXT: [&str; 8] = [
     "end\n",
 ];
 
-#[test]
-fn makes_tournaments(rt: HostRuntime) -> Result<(), Fail> {
-    let names = [
+fn entry_names() -> Result<[Name; 3], Fail>
+    ensures { IfOk result (AllPairs (λ a b. a ≢ b)) }
+{
+    Ok([
         Name::read(b"A").ok_or("no name")?,
         Name::read(b"B").ok_or("no name")?,
         Name::read(b"C").ok_or("no name")?,
-    ];
+    ])
+}
+
+fn totals(alloc: Global) -> Result<Totals, Fail>
+    ensures { IfOk result (AreResults 3 (record { r = 3; s = 0; t = 5; p = 1 })) }
+{
     let greater = Span {
         lo: 500_000_000_000_001,
         hi: 500_000_000_000_002,
@@ -58,10 +69,15 @@ fn makes_tournaments(rt: HostRuntime) -> Result<(), Fail> {
         wins: 1,
         undecided: 0,
     };
-    let totals = Totals {
-        matches: MatchLines::from_vec(vec![in rt.alloc(); line]?),
-        entries: EntryLines::from_vec(vec![in rt.alloc(); first, second, third]?),
-    };
+    Ok(Totals {
+        matches: MatchLines::from_vec(vec![in alloc; line]?),
+        entries: EntryLines::from_vec(vec![in alloc; first, second, third]?),
+    })
+}
+
+fn made(alloc: Global) -> Result<Report, Fail>
+    ensures { IfOk result IsValid }
+{
     let game = Game {
         r: 3,
         s: 0,
@@ -69,9 +85,14 @@ fn makes_tournaments(rt: HostRuntime) -> Result<(), Fail> {
         p: 1,
     };
     let noise = Noise { n: 1, e: 100 };
-    let report = tournament_report(rt.alloc(), &game, &noise, &names, &totals)?;
-    let bytes = write_report(rt.alloc(), &report)?;
+    let names = entry_names()?;
+    let totals = totals(alloc)?;
+    Ok(tournament_report(alloc, &game, &noise, &names, &totals)?)
+}
+
+#[test]
+fn makes_tournaments(rt: HostRuntime) -> Result<(), Fail> {
+    let report = made(rt.alloc())?;
     let text = changed(rt.alloc(), &TEXT, 8, "")?;
-    assert_eq!(rt; bytes.as_slice(), text.as_bytes());
-    Ok(())
+    check_text(rt.alloc(), &report, text.as_str())
 }
