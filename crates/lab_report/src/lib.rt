@@ -14,8 +14,6 @@ mod rules;
 mod state;
 mod table;
 mod table_rules;
-#[cfg(test)]
-mod tests;
 mod tournament;
 mod writing;
 

@@ -1,8 +1,9 @@
-//! The largest report of a tournament, read and written.
-ghost use Rattle.std.specs.Prelude.{◌<◌, IfOk};
-ghost use Rattle.lab_report.specs.Valid.{IsValid};
+//! The largest report of a tournament, read and written, at once and in pieces.
+ghost use Rattle.std.specs.Prelude.{◌<◌};
 
-use lab_report::{Body, Report, ReportError, read_report, write_report};
+use crate::pieces::check_pieces;
+use crate::shared::{check_text, read};
+use lab_report::Body;
 use std::alloc::Global;
 use std::fmt::Write;
 use std::test::Fail;
@@ -44,13 +45,27 @@ fn largest(alloc: Global) -> Result<String, Fail> {
     Ok(text)
 }
 
-fn read(alloc: Global, bytes: &[u8]) -> Result<Report, ReportError>
-    ensures { IfOk result IsValid }
-{
-    if bytes.len() < 1_000_000 {
-        read_report(alloc, bytes)
-    } else {
-        Err(ReportError::NoMemory)
+// Whether two bodies are one largest tournament.
+fn same_tables(one: &Body, other: &Body) -> bool {
+    match (one, other) {
+        (
+            Body::Tournament {
+                matches,
+                who,
+                entries,
+            },
+            Body::Tournament {
+                matches: other_matches,
+                who: other_who,
+                entries: other_entries,
+            },
+        ) => {
+            matches.as_slice().len() == 2080
+                && matches.as_slice() == other_matches.as_slice()
+                && who.as_slice() == other_who.as_slice()
+                && entries.as_slice() == other_entries.as_slice()
+        }
+        _ => false,
     }
 }
 
@@ -58,27 +73,12 @@ fn read(alloc: Global, bytes: &[u8]) -> Result<Report, ReportError>
 fn the_largest_goes_both_ways(rt: HostRuntime) -> Result<(), Fail> {
     let text = largest(rt.alloc())?;
     let report = read(rt.alloc(), text.as_bytes())?;
-    let bytes = write_report(rt.alloc(), &report)?;
-    assert_eq!(rt; bytes.as_slice(), text.as_bytes());
-    let again = read(rt.alloc(), &bytes)?;
-    let (
-        Body::Tournament {
-            matches,
-            who,
-            entries,
-        },
-        Body::Tournament {
-            matches: same_matches,
-            who: same_who,
-            entries: same_entries,
-        },
-    ) = (&report.body, &again.body)
-    else {
-        return Err(Fail::from("no tournament"));
-    };
-    assert_eq!(rt; matches.as_slice().len(), 2080);
-    assert_eq!(rt; matches.as_slice(), same_matches.as_slice());
-    assert_eq!(rt; who.as_slice(), same_who.as_slice());
-    assert_eq!(rt; entries.as_slice(), same_entries.as_slice());
-    Ok(())
+    check_text(rt.alloc(), &report, text.as_str())?;
+    check_pieces(rt.alloc(), &report, text.as_str())?;
+    let again = read(rt.alloc(), text.as_bytes())?;
+    if same_tables(&report.body, &again.body) {
+        Ok(())
+    } else {
+        Err(Fail::from("another table"))
+    }
 }

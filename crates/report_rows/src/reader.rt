@@ -1,5 +1,6 @@
 //! A small reader of reports. It follows the description of reports, line by line and field by field,
 //! and owes nothing to the crates that print and read them.
+use crate::drill_lines::bad_in_drill;
 use crate::table::Table;
 use std::alloc::Global;
 use std::test::Fail;
@@ -37,8 +38,8 @@ pub(crate) fn whole(text: &str, most: u128) -> Option<u128> {
     if number <= most { Some(number) } else { None }
 }
 
-// Points with twelve decimals, in units.
-fn units(text: &str, most_points: u128) -> Option<u128> {
+/// Points with twelve decimals, in units.
+pub(crate) fn units(text: &str, most_points: u128) -> Option<u128> {
     let (points, decimals) = text.split_once('.')?;
     if decimals.len() != 12 || !are_digits(decimals) {
         return None;
@@ -241,6 +242,9 @@ pub(crate) fn first_bad(alloc: Global, text: &str) -> Result<u32, Fail> {
     let Some((head, rest)) = text.split_once('\n') else {
         return Ok(1);
     };
+    if head == "axlab|1|drill" {
+        return bad_in_drill(alloc, rest);
+    }
     if head != "axlab|1|match" && head != "axlab|1|tournament" {
         return Ok(1);
     }

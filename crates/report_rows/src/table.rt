@@ -3,9 +3,10 @@ use crate::reader::{Ends, Played, is_name, match_of, score, whole, winner};
 use std::alloc::Global;
 use std::test::Fail;
 
-// The most points of a total, and the greatest count.
-const MOST_TOTAL: u128 = 10_000_000_000_000_000_000_000_000;
+/// The most points of a total.
+pub(crate) const MOST_TOTAL: u128 = 10_000_000_000_000_000_000_000_000;
 
+// The greatest count.
 const MOST_COUNT: u128 = 4_294_967_295;
 
 // What the line of an entry tells.
