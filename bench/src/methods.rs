@@ -1,7 +1,8 @@
 //! The expected scores of a match, by three methods. Each goes over all pairs of rows once a turn, with
 //! two layers of cells: what the pair expects of the turns that are left.
 
-use crate::lab::{Automaton, Lab, PAYS, TURNED};
+use crate::automaton::Automaton;
+use crate::lab::{Match, PAYS, TURNED};
 
 /// Two ends, in a unit that the method names.
 #[derive(Clone, Copy, Default)]
@@ -14,8 +15,8 @@ pub struct Span {
 pub const UNITS: u128 = 1_000_000_000_000;
 
 // The weight of a shown C in each row, over den * e.
-fn shown(side: &Automaton, lab: &Lab) -> Vec<u64> {
-    let flipped = |w| w * (lab.e - lab.n) + (side.den - w) * lab.n;
+fn shown(side: &Automaton, meeting: &Match<'_>) -> Vec<u64> {
+    let flipped = |w| w * (meeting.e - meeting.n) + (side.den - w) * meeting.n;
     side.weights.iter().map(|w| flipped(*w)).collect()
 }
 
@@ -26,16 +27,16 @@ fn plays(a: u64, all_a: u64, b: u64, all_b: u64) -> [u64; 4] {
 }
 
 /// (a) Both ends in units of 10^-12, each rounded outward by a division of 128 bits.
-pub fn two_sided(lab: &Lab) -> [Span; 2] {
-    let (a, b) = (&lab.left, &lab.right);
-    let (all_a, all_b) = (a.den * lab.e, b.den * lab.e);
-    let (shown_a, shown_b) = (shown(a, lab), shown(b, lab));
+pub fn two_sided(meeting: &Match<'_>) -> [Span; 2] {
+    let (a, b) = (meeting.left, meeting.right);
+    let (all_a, all_b) = (a.den * meeting.e, b.den * meeting.e);
+    let (shown_a, shown_b) = (shown(a, meeting), shown(b, meeting));
     let q = (all_a * all_b) as u128;
     let pays = PAYS.map(|side| side.map(|pay| pay as u128 * UNITS));
     let columns = b.rows();
     let mut cells = vec![[Span::default(); 2]; a.rows() * columns];
     let mut next = cells.clone();
-    for _ in 0..lab.turns {
+    for _ in 0..meeting.turns {
         for u in 0..a.rows() {
             for v in 0..columns {
                 let weights = plays(shown_a[u], all_a, shown_b[v], all_b);
@@ -77,19 +78,19 @@ fn divided(x: u128, high: u64, low: u64) -> u128 {
 }
 
 /// (b) The lower end alone, in 128 bits as fine as they hold, by a reciprocal in place of the division.
-pub fn one_sided(lab: &Lab) -> OneSided {
-    let (a, b) = (&lab.left, &lab.right);
-    let (all_a, all_b) = (a.den * lab.e, b.den * lab.e);
-    let (shown_a, shown_b) = (shown(a, lab), shown(b, lab));
+pub fn one_sided(meeting: &Match<'_>) -> OneSided {
+    let (a, b) = (meeting.left, meeting.right);
+    let (all_a, all_b) = (a.den * meeting.e, b.den * meeting.e);
+    let (shown_a, shown_b) = (shown(a, meeting), shown(b, meeting));
     let reciprocal = u128::MAX / (all_a * all_b) as u128;
     let (high, low) = ((reciprocal >> 64) as u64, reciprocal as u64);
     // Cells stay below 2^86, so that a weight of 40 bits times a cell fits.
-    let scale = (1 << 86) / (lab.turns as u128 * 5);
+    let scale = (1 << 86) / (meeting.turns as u128 * 5);
     let pays = PAYS.map(|side| side.map(|pay| pay as u128 * scale));
     let columns = b.rows();
     let mut cells = vec![[0u128; 2]; a.rows() * columns];
     let mut next = cells.clone();
-    for _ in 0..lab.turns {
+    for _ in 0..meeting.turns {
         for u in 0..a.rows() {
             for v in 0..columns {
                 let weights = plays(shown_a[u], all_a, shown_b[v], all_b);
@@ -108,22 +109,22 @@ pub fn one_sided(lab: &Lab) -> OneSided {
     }
     OneSided {
         low: cells[0],
-        error: 4 * lab.turns as u128,
+        error: 4 * meeting.turns as u128,
         scale,
     }
 }
 
 /// (c) The same in double precision, with no bound on the error.
-pub fn doubles(lab: &Lab) -> [f64; 2] {
-    let (a, b) = (&lab.left, &lab.right);
-    let (all_a, all_b) = (a.den * lab.e, b.den * lab.e);
-    let (shown_a, shown_b) = (shown(a, lab), shown(b, lab));
+pub fn doubles(meeting: &Match<'_>) -> [f64; 2] {
+    let (a, b) = (meeting.left, meeting.right);
+    let (all_a, all_b) = (a.den * meeting.e, b.den * meeting.e);
+    let (shown_a, shown_b) = (shown(a, meeting), shown(b, meeting));
     let reciprocal = 1.0 / (all_a * all_b) as f64;
     let pays = PAYS.map(|side| side.map(|pay| pay as f64));
     let columns = b.rows();
     let mut cells = vec![[0f64; 2]; a.rows() * columns];
     let mut next = cells.clone();
-    for _ in 0..lab.turns {
+    for _ in 0..meeting.turns {
         for u in 0..a.rows() {
             for v in 0..columns {
                 let weights = plays(shown_a[u], all_a, shown_b[v], all_b);
