@@ -58,13 +58,18 @@ const DRILLS: &[(&str, &str)] = &[
 fn plays_the_longest_matches(rt: HostRuntime) -> Result<(), Fail> {
     let alloc = rt.alloc();
     for (left, right, short, most) in LONGEST {
-        let job = format!(in alloc; "left = \"{left}\"\nright = \"{right}\"\nturns = 1000000000000\n")?;
+        let job = format!(in alloc;
+            "left = \"{left}\"\nright = \"{right}\"\nturns = 1000000000000\n"
+        )?;
         let lab = format!(in alloc; "{PLUGS}[match]\n{job}")?;
         let ran = run(alloc, "match lab", calm(lab.as_bytes()))?;
         let scores = short.replace(alloc, "_", ".000000000000")?;
         let line = format!(in alloc; "match|{left}|{right}|1000000000000|{scores}")?;
         assert_eq!(rt; ran.status, Status::Answered);
-        assert_eq!(rt; std::str::from_utf8(&ran.out)?.lines().nth(3), Some(line.as_str()));
+        assert_eq!(rt;
+            std::str::from_utf8(&ran.out)?.lines().nth(3),
+            Some(line.as_str())
+        );
         assert!(rt; ran.advances <= *most);
     }
     Ok(())
@@ -117,7 +122,10 @@ fn star(alloc: Global) -> Result<String, Fail> {
     let mut text = String::from_str(alloc, "version = 1\n")?;
     for entry in 0..64_u32 {
         let name = format!(in alloc; "name = \"e{entry}\"")?;
-        write!(text, "[[entry]]\n{name}\nkind = \"plug\"\nplug = \"Grudger\"\n")?;
+        write!(
+            text,
+            "[[entry]]\n{name}\nkind = \"plug\"\nplug = \"Grudger\"\n"
+        )?;
     }
     write!(text, "[tournament]\nturns = 5\nedges = [\n")?;
     for entry in 1..64_u32 {
