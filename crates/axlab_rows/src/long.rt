@@ -136,6 +136,28 @@ fn star(alloc: Global) -> Result<String, Fail> {
 }
 
 #[test]
+fn fails_in_the_second_piece(rt: HostRuntime) -> Result<(), Fail> {
+    let alloc = rt.alloc();
+    let lab = star(alloc)?;
+    let around = Around {
+        room: 100_000,
+        ..calm(lab.as_bytes())
+    };
+    let whole = run(alloc, "tournament lab", around)?;
+    let failing = Around {
+        failing_write: 2,
+        ..around
+    };
+    let failed = run(alloc, "tournament lab", failing)?;
+    assert_eq!(rt; whole.status, Status::Answered);
+    assert_eq!(rt; failed.status, Status::WriteFault);
+    let front = whole.out.chunks(4096).next().ok_or("no report")?;
+    assert_eq!(rt; failed.out.as_slice(), front);
+    assert_eq!(rt; front.len(), 4096);
+    Ok(())
+}
+
+#[test]
 fn sends_pieces(rt: HostRuntime) -> Result<(), Fail> {
     let alloc = rt.alloc();
     let lab = star(alloc)?;
@@ -144,15 +166,6 @@ fn sends_pieces(rt: HostRuntime) -> Result<(), Fail> {
         ..calm(lab.as_bytes())
     };
     let whole = run(alloc, "tournament lab", around)?;
-    assert_eq!(rt; whole.status, Status::Answered);
-    assert!(rt; whole.out.len() > 4096);
-    let around = Around {
-        failing_write: 2,
-        ..around
-    };
-    let failed = run(alloc, "tournament lab", around)?;
-    assert_eq!(rt; failed.status, Status::WriteFault);
-    assert_eq!(rt; failed.out.as_slice(), &whole.out[..4096]);
     let mut recorder = Recorder {
         bytes: Vec::new(alloc),
         lengths: Vec::new(alloc),
@@ -161,6 +174,7 @@ fn sends_pieces(rt: HostRuntime) -> Result<(), Fail> {
     let ran = run_into(alloc, "tournament lab", around, &mut recorder)?;
     assert_eq!(rt; ran.status, Status::Answered);
     assert_eq!(rt; recorder.bytes.as_slice(), whole.out.as_slice());
+    assert!(rt; recorder.lengths.len() > 1);
     assert!(rt; recorder.lengths.iter().all(|length| *length <= 4096));
     Ok(())
 }
