@@ -23,8 +23,7 @@ use Rattle.round_robin.specs.Contest.{Strategy, IsPair, ArePairs, IsSurePair, no
 use Rattle.round_robin.specs.Laws.{LinesHold}
 use Rattle.round_robin.specs.Ranks.{greater_among, others, rank_of, span_at}
 use Rattle.round_robin.specs.Totals.{IsLineBetween, AreLines, entry_of, entries_of, total_of, totals_of}
-use Rattle.round_robin.specs.Truth.{IsTrueTournament, TournamentsAreTrue, expects_of, nothing, plus, true_total, true_totals, true_rank}
-use Rattle.round_robin.proofs.TrueTotals.{plus_holds}
+use Rattle.round_robin.specs.Truth.{IsTrueTournament, SumsAreHeld, TournamentsAreTrue, expects_of, nothing, plus, true_total, true_totals, true_rank}
 use Rattle.lab_report.specs.Valid.{drill_game}
 use Rattle.lab_file.specs.Tournament.{AreMatches, TournamentsAscend}
 use Rattle.axlab_core.specs.Entrants.{Entrant, expects_in}
@@ -214,19 +213,19 @@ module _ (lines_hold : LinesHold) (players : List Lasting) (sheets : List SheetD
           subst P (sym first_are)
           (totals_from (first_places (machine_totals players sheets)) (All-filter (λ place. true_rank (machine_totals players sheets) place == 1) (λ place. place < 64) (range_with_len 0 64) (all_below 64)))
 
-      sums_from : (places : List ℕ) → IsWhole (sum_of_totals (map (entry_of 64 lines) places)) (sum_of (map (true_total (expects_of (machine_strategies players sheets) drill_game drill_job.turns) drill_pairs) places))
-      sums_from [] = record { low = omega (arith, ints); high = omega (arith, ints) }
-      sums_from (place ∷ places) =
+      sums_from : SumsAreHeld → (places : List ℕ) → IsWhole (sum_of_totals (map (entry_of 64 lines) places)) (sum_of (map (true_total (expects_of (machine_strategies players sheets) drill_game drill_job.turns) drill_pairs) places))
+      sums_from held [] = record { low = omega (arith, ints); high = omega (arith, ints) }
+      sums_from held (place ∷ places) =
           let expects = expects_of (machine_strategies players sheets) drill_game drill_job.turns in
-          plus_holds score_units (point (total_of place lines).lo) (point (sum_of_totals (map (entry_of 64 lines) places))) (true_total expects drill_pairs place) (sum_of (map (true_total expects drill_pairs) places))
-          (whole_of (total_of place lines) _ (total_point place) (truth.totals place).holds) (sums_from places)
+          held score_units (point (total_of place lines).lo) (point (sum_of_totals (map (entry_of 64 lines) places))) (true_total expects drill_pairs place) (sum_of (map (true_total expects drill_pairs) places))
+          (whole_of (total_of place lines) _ (total_point place) (truth.totals place).holds) (sums_from held places)
 
       -- and the sum is that of all true totals
-      pub sum_is : IsWhole (sum_of_totals entries) (sum_of (machine_totals players sheets))
-      sum_is =
+      pub sum_is : SumsAreHeld → IsWhole (sum_of_totals entries) (sum_of (machine_totals players sheets))
+      sum_is held =
           let P : List Fraction → Type 0 = λ totals. IsWhole (sum_of_totals entries) (sum_of totals) in
           let Q : List EntryLine → Type 0 = λ es. IsWhole (sum_of_totals es) (sum_of (true_totals (expects_of (machine_strategies players sheets) drill_game drill_job.turns) drill_pairs 64)) in
-          subst P totals_there (subst Q (sym are_entries) (sums_from (range_with_len 0 64)))
+          subst P totals_there (subst Q (sym are_entries) (sums_from held (range_with_len 0 64)))
 
       -- all totals can be summed, and shown
       pub entries_small : 2 * length drill_pairs ≤ 64 * 65 → All (λ (entry : EntryLine). IsSmallTotal entry.total) entries

@@ -4,8 +4,7 @@ use Rattle.std.specs.Prelude.{◌↔◌}
 use Rattle.std.proofs.Math.Seq.{take-add}
 use Rattle.std.proofs.lemmas.List.{length-take, length-drop, take-take, drop-drop, take-append-drop}
 use Rattle.lab_ports.specs.Causes.{Rose}
-use Rattle.lab_ports.specs.Holding.{Grew, GrewByPart}
-use Rattle.lab_ports.proofs.Grown.{grew_more}
+use Rattle.lab_ports.specs.Holding.{Grew, GrewByPart, GrowthAddsUp}
 use Rattle.axlab_core.specs.Right.{GrewByFront}
 
 -- the sink took the first n of the bytes, and these are to come
@@ -23,13 +22,13 @@ none_sent None text = record { took = refl; left = refl }
 none_sent (Some taken) text = record { took = ap Some (sym (append_nothing taken)); left = refl }
 
 -- one piece more
-pub piece_sent : (n : ℕ) (before mid now : Option (List ℕ)) (text to_come left piece : List ℕ) → IsSentUpTo n before mid text to_come
+pub piece_sent : GrowthAddsUp → (n : ℕ) (before mid now : Option (List ℕ)) (text to_come left piece : List ℕ) → IsSentUpTo n before mid text to_come
     → piece ≡ take 4096 to_come → left ≡ drop 4096 to_come → Grew mid now piece → IsSentUpTo (n + 4096) before now text left
-piece_sent n before mid now text to_come left piece so_far front rest took =
+piece_sent adds_up n before mid now text to_come left piece so_far front rest took =
     let whole : take (n + 4096) text ≡ take n text ++ piece
     = take-add n 4096 text ∙ ap (λ xs. take n text ++ xs) (sym (front ∙ ap (take 4096) so_far.left)) in
     record {
-      took = rw whole (grew_more before mid now (take n text) piece so_far.took took);
+      took = rw whole (adds_up before mid now (take n text) piece so_far.took took);
       left = rest ∙ ap (drop 4096) so_far.left ∙ drop-drop 4096 n text;
     }
 
@@ -41,9 +40,9 @@ all_sent n before now text to_come so_far none =
     rw whole at so_far.took
 
 -- a part of the piece
-pub part_sent : (n : ℕ) (before mid now : Option (List ℕ)) (text to_come piece : List ℕ) → IsSentUpTo n before mid text to_come
+pub part_sent : GrowthAddsUp → (n : ℕ) (before mid now : Option (List ℕ)) (text to_come piece : List ℕ) → IsSentUpTo n before mid text to_come
     → piece ≡ take 4096 to_come → GrewByPart mid now piece → GrewByPart before now text
-part_sent n before mid now text to_come piece so_far front part =
+part_sent adds_up n before mid now text to_come piece so_far front part =
     let k = part.0 in
     let rest : List ℕ = drop n text in
     let is : piece ≡ take 4096 rest = front ∙ ap (take 4096) so_far.left in
@@ -51,7 +50,7 @@ part_sent n before mid now text to_come piece so_far front part =
     let inside : k < length piece = part.1 in
     let shorter : take k piece ≡ take k rest = ap (take k) is ∙ take-take k 4096 rest (omega (arith, many, inside)) in
     let whole : take (n + k) text ≡ take n text ++ take k piece = take-add n k text ∙ ap (λ xs. take n text ++ xs) (sym shorter) in
-    (n + k, omega (arith, inside, many, length-drop n text), rw whole (grew_more before mid now (take n text) (take k piece) so_far.took part.2))
+    (n + k, omega (arith, inside, many, length-drop n text), rw whole (adds_up before mid now (take n text) (take k piece) so_far.took part.2))
 
 -- a front part, where memory is wanted
 pub front_sent : (n : ℕ) (before now : Option (List ℕ)) (text to_come : List ℕ) → IsSentUpTo n before now text to_come → GrewByFront before now text

@@ -23,7 +23,7 @@ use lookup_player::tables_follow_their_rule;
 use machine_player::machines_follow_their_rule;
 use memory_player::vectors_follow_their_rule;
 use player_core::{Bench, Player, Seats, Sheet, Side};
-use round_robin::laws::{lines_hold, tournaments_are_true};
+use round_robin::laws::{lines_hold, sums_are_held, tournaments_are_true};
 use round_robin::{Contestant, EntryLine, Rank, Totals, totals};
 use std::alloc::Global;
 
@@ -156,6 +156,7 @@ pub(crate) fn drill(alloc: Global, number: u64, bench: &mut Bench) -> Result<Rep
     lines_hold();
     tournaments_ascend();
     tournaments_are_true();
+    sums_are_held();
     let sheets = drill_sheets(alloc, number)?;
     let results = results(alloc, sheets.as_slice(), bench)?;
     let entries = results.entries.as_slice();

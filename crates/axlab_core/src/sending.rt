@@ -7,7 +7,7 @@ ghost use Rattle.lab_report.specs.Valid.{IsValid};
 ghost use Rattle.axlab_core.specs.Sent.{Stopped};
 
 use history_model::NoMemory;
-use lab_ports::{Sink, SinkFailed, send};
+use lab_ports::{Sink, SinkFailed, growth_adds_up, send};
 use lab_report::{Pieces, Report};
 use std::alloc::Global;
 
@@ -51,6 +51,7 @@ pub(crate) fn send_report<O: Sink>(
     ensures sent { OnOk result (Grew (O.taken out.old) (O.taken out.new) (report_text report.now)) }
     ensures stopped { IfErr result (λ error. Stopped error (O.taken out.old) (O.taken out.new) (report_text report.now) (Rose (O.faults out.old) (O.faults out.new))) }
 {
+    growth_adds_up();
     let mut pieces = Pieces::new(alloc, report);
     let mut piece = Vec::new(alloc);
     while pieces.fill(&mut piece)? {

@@ -1,5 +1,5 @@
 //! Marks of the pairs of rows that a match has met.
-ghost use Rattle.std.specs.Prelude.{◌≡◌, ◌≤◌, ◌<◌, ◌+◌, ◌^◌, IfOk, OnOk, length};
+ghost use Rattle.std.specs.Prelude.{◌≡◌, ◌≤◌, ◌<◌, ◌+◌, ◌^◌, IfOk, OnErr, OnOk, length, max};
 
 use history_model::{NoMemory, Tally};
 use std::alloc::Global;
@@ -91,15 +91,14 @@ impl Trail {
         })
     }
 
-    /// Makes room for at least so many pairs of rows. The room that is there stays, also without
-    /// memory.
+    /// Makes room for at least so many pairs of rows. More room that is there stays.
     ///
     /// # Errors
     ///
-    /// `NoMemory` where the marks find no memory.
+    /// `NoMemory` where the marks find no memory. The room is then as before.
     pub fn make_room(&mut self, pairs: u32) -> Result<(), NoMemory>
-        ensures room { OnOk result (pairs ≤ self.new) }
-        ensures kept { self.old ≤ self.new }
+        ensures room { OnOk result (self.new ≡ max self.old pairs) }
+        ensures kept { OnErr result (self.new ≡ self.old) }
     {
         if self.marks.len() < pairs as usize {
             self.marks.resize(pairs as usize, NO_MARK)?;

@@ -3,7 +3,7 @@ use Rattle.std.specs.Prelude.{ℕ, ◌≡◌, ◌+◌, ◌*◌, ◌==◌, ◌<�
 use Rattle.std.specs.List.{AllZip, range_with_len}
 use Rattle.history_model.specs.Expectation.{player}
 use Rattle.history_model.specs.Game.{Payoffs}
-use Rattle.fixed_span.specs.Span.{Ends, Fraction, Holds, over, score_units}
+use Rattle.fixed_span.specs.Span.{Ends, Fraction, Holds, add, over, score_units}
 use Rattle.match_play.specs.declared.line.MatchLine.{MatchLine}
 use Rattle.product_chain.specs.Expected.{expected_score}
 use Rattle.round_robin.specs.declared.ranking.Rank.TheVariants.{At}
@@ -28,6 +28,12 @@ is_less a b = int_lt (a.numerator *ℤ pos b.denominator) (b.numerator *ℤ pos 
 pub record HoldsFraction (units : ℕ) (span : Ends) (x : Fraction) : Type 0 where
   pub holds : Holds units span x
   pub some : 0 < x.denominator
+
+-- the law: the sum of two spans holds the sum of what they hold
+abbrev pub SumsAreHeld : Type 0
+SumsAreHeld =
+    (units : ℕ) (s t : Ends) (x y : Fraction) → Holds units s x → Holds units t y →
+    Holds units (add s t) (plus x y)
 
 -- ---- true totals, where `expects i j` is what entry i expects against entry j
 

@@ -1,6 +1,6 @@
 //! Laws, proved once: a caller has one by calling its function, which does nothing.
 ghost use Rattle.round_robin.specs.Laws.{LinesHold};
-ghost use Rattle.round_robin.specs.Truth.{RanksAreTrue, TotalsHoldTrueTotals, TournamentsAreTrue};
+ghost use Rattle.round_robin.specs.Truth.{RanksAreTrue, SumsAreHeld, TotalsHoldTrueTotals, TournamentsAreTrue};
 
 use fixed_span::verdicts_are_true;
 use history_model::{
@@ -16,6 +16,11 @@ pub fn lines_hold()
     histories_agree_with_rows();
     offset_lowers();
 }
+
+/// The sum of two spans holds the sum of any two fractions that they hold.
+pub fn sums_are_held()
+    ensures { SumsAreHeld }
+{}
 
 /// Where the spans of matches hold what the entries expect, totals hold the true totals.
 pub fn totals_hold_true_totals()

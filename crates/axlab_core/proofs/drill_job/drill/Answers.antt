@@ -66,7 +66,7 @@ returns-clause-right g c =
     c.as_slice-entries.result.now told)
     (whole_sum c.as_slice-entries.result.now _ _ c.sum_of_totals-sum.ensures (sum_is c.lines_hold.ensures _ c.as_slice.result.now are c.tournaments_ascend.ensures c.in_ok-results.results.matches c.in_ok-results.ensures.lines
     c.vectors_follow_their_rule.ensures c.machines_follow_their_rule.ensures c.tables_follow_their_rule.ensures c.weights_decide.ensures _ c.requires c.tournaments_are_true.ensures
-    c.as_slice-entries.result.now told))
+    c.as_slice-entries.result.now told c.sums_are_held.ensures))
     (to_z-of_z w128 c.sum_of_totals-sum.result fits) c.drill_report.ensures.report c.drill_report.ensures.valid c.drill_report.ensures.shows
 
 pub returns-clause-asked : goal.returns-clause-asked
