@@ -16,10 +16,10 @@ use Rattle.round_robin.specs.Asked.{Turns, AreAsked}
 use Rattle.round_robin.specs.Totals.{entry_of, entries_of}
 use Rattle.round_robin.specs.Truth.{nothing, true_rank}
 use Rattle.lab_report.specs.declared.report.Report.{Report}
-use Rattle.lab_report.specs.Made.{ShowsFirst, drill_report_of, first_order, moved_first}
 use Rattle.lab_report.specs.Names.{name_at}
 use Rattle.lab_report.specs.Text.{report_text}
 use Rattle.lab_report.specs.Valid.{IsFirstOf, IsTotal, IsValid, first_names}
+use Rattle.report_making.specs.Made.{ShowsFirst, drill_report_of, first_order, moved_first}
 use Rattle.lab_file.specs.Tournament.{TournamentsAscend}
 use Rattle.drill.specs.Drill.{drill_name, drill_sheets}
 use Rattle.axlab_core.specs.Machines.{IsSmallTotal, IsWhole, drill_job, drill_pairs, first_of, first_places, is_first, line_at, machine_strategies, machine_totals, no_line, sum_of, sum_of_totals, total_at}

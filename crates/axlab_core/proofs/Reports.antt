@@ -7,10 +7,10 @@ use Rattle.player_core.specs.State.{Lasting}
 use Rattle.player_core.specs.Fits.{Fits}
 use Rattle.match_play.specs.declared.line.MatchLine.{MatchLine}
 use Rattle.lab_report.specs.declared.report.Report.{Report}
-use Rattle.lab_report.specs.Made.{names_of_pair, match_report_of}
 use Rattle.lab_report.specs.Names.{name_at}
 use Rattle.lab_report.specs.Text.{report_text}
 use Rattle.lab_report.specs.Valid.{IsValid}
+use Rattle.report_making.specs.Made.{names_of_pair, match_report_of}
 use Rattle.lab_file.specs.declared.jobs.MatchJob.{MatchJob}
 use Rattle.lab_file.specs.Lab.{LabData, entry_at}
 use Rattle.axlab_core.specs.Entrants.{Entrant}

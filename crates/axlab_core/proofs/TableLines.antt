@@ -21,8 +21,8 @@ use Rattle.round_robin.specs.Contest.{Strategy, IsPair, ArePairs, strategy_at, s
 use Rattle.round_robin.specs.Laws.{LinesHold, IsScoreSpan, IsInRange}
 use Rattle.round_robin.specs.Line.{IsLineOf, IsScored}
 use Rattle.round_robin.specs.Totals.{IsLineBetween, AreLines, pairs_of, entries_of}
-use Rattle.lab_report.specs.Made.{AreResults}
 use Rattle.lab_report.specs.Valid.{IsScore, IsCounted, IsShowable, IsMatchOf}
+use Rattle.report_making.specs.Made.{AreResults}
 
 -- ---- one line
 

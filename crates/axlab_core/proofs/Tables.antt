@@ -26,10 +26,10 @@ use Rattle.round_robin.specs.Ranks.{rank_of}
 use Rattle.round_robin.specs.Totals.{IsLineBetween, AreLines, pairs_of, entry_of, entries_of, total_of, totals_of}
 use Rattle.round_robin.specs.Truth.{IsTrueTournament, TournamentsAreTrue, expects_of, nothing, own_expected, plus, true_total, true_totals, true_rank}
 use Rattle.lab_report.specs.declared.report.Report.{Report}
-use Rattle.lab_report.specs.Made.{ShowsNames, moved_match, moved_matches, names_in_order, places_in, tournament_report_of}
 use Rattle.lab_report.specs.Names.{name_at}
 use Rattle.lab_report.specs.Text.{report_text, shown_match}
 use Rattle.lab_report.specs.Valid.{IsValid}
+use Rattle.report_making.specs.Made.{ShowsNames, moved_match, moved_matches, names_in_order, places_in, tournament_report_of}
 use Rattle.lab_file.specs.declared.lab.Entry.{Entry}
 use Rattle.lab_file.specs.declared.tournament.TournamentJob.{TournamentJob}
 use Rattle.lab_file.specs.Lab.{LabData, entry_at, no_entry}

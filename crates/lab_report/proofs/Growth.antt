@@ -1,13 +1,14 @@
 -- Names that grow: what stands in them stays.
 use Rattle.std.proofs.Common.{◌≡◌, ℕ, suc, ◌+◌, ◌<◌, ◌≤◌, List, [], ◌∷◌, ◌++◌, length, map, refl, sym, ap, ◌∙◌, arith, length-append}
-use Rattle.std.specs.List.{All}
+use Rattle.std.specs.List.{All, Contains}
+use Rattle.std.proofs.lemmas.List.Elements.{All-cons, All-contains_itself, All-nil}
 use Rattle.match_play.specs.declared.line.MatchLine.{MatchLine}
 use Rattle.round_robin.specs.declared.tables.EntryLine.{EntryLine}
 use Rattle.history_model.specs.Game.{Payoffs}
 use Rattle.lab_report.specs.Names.{name_at, with_name, with_names, place_in}
 use Rattle.lab_report.specs.Text.{shown_match, match_lines, entry_lines}
 use Rattle.lab_report.specs.Valid.{IsMatchOf, match_names}
-use Rattle.lab_report.proofs.PlaceLaws.{Differ, either, is_old, longer, name_stays, place_new, with_differ, with_moves_none}
+use Rattle.lab_report.proofs.PlaceLaws.{Differ, either, is_old, longer, name_stays, none_differ, place_below, place_new, with_all, with_differ, with_moves_none}
 
 -- ---- elements
 
@@ -56,6 +57,27 @@ place_kept names name =
 
 pub one_longer : (names : List (List ℕ)) (name : List ℕ) → length (with_name names name) ≤ length names + 1
 one_longer names name = either (λ ns. length ns ≤ length names + 1) names name (is_old names name) (λ _. omega arith) (λ _. omega (arith, length-append names (name ∷ [])))
+
+-- each of some names has a place among all
+pub named_in : (ns xs : List (List ℕ)) → All (λ name. place_in (with_names ns xs) name < length (with_names ns xs)) xs
+named_in ns [] = All-nil (λ name. place_in ns name < length ns)
+named_in ns (x ∷ xs) =
+    let first : List (List ℕ) = with_name ns x in
+    let all : List (List ℕ) = with_names first xs in
+    let grows = grows_all first xs in
+    let here : place_in all x < length all = omega (arith, place_below ns x, grows.moves_none x (place_below ns x), grows.longer) in
+    All-cons (λ (name : List ℕ). place_in all name < length all) x xs here (named_in first xs)
+
+-- what holds of names, and of others, holds of all
+both_hold : (P : List ℕ → Type 0) (ns xs : List (List ℕ)) → All P ns → All P xs → All P (with_names ns xs)
+both_hold P ns [] all more = all
+both_hold P ns (x ∷ xs) all more = both_hold P (with_name ns x) xs (with_all P ns x all (all_head P x xs more)) (all_tail P x xs more)
+
+pub no_other : (xs : List (List ℕ)) → All (Contains xs) (with_names [] xs)
+no_other xs = both_hold (Contains xs) [] xs (All-nil (Contains xs)) (All-contains_itself xs)
+
+pub gathered_differ : (xs : List (List ℕ)) → Differ (with_names [] xs)
+gathered_differ xs = all_differ [] xs none_differ
 
 -- ---- lines show the names that they showed
 

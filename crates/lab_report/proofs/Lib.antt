@@ -1,9 +1,7 @@
 pub mod Answered
 pub mod DrillLaws
-pub mod DrillMade
 pub mod Growth
 pub mod Loops
-pub mod MadeLaws
 pub mod MatchRuns
 pub mod Piecing
 pub mod PlaceLaws

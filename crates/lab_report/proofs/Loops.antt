@@ -1,6 +1,5 @@
 -- One line after the other, as the loop reads them.
-use Rattle.std.proofs.Common.{◌≡◌, ℕ, ◌+◌, ◌∷◌, [], Bool, true, false, cond, eqb, ◌&&◌, List, length, Option, Some, None, Result, Ok, Err, refl, sym, ap, ◌∙◌, arith}
-use Rattle.std.proofs.lemmas.Bool.Decides.{nat_tests}
+use Rattle.std.proofs.Common.{◌≡◌, ℕ, ◌+◌, ◌∷◌, [], Bool, true, false, cond, eqb, ◌&&◌, List, length, Option, Some, None, Result, Ok, Err, refl, ap, ◌∙◌}
 use Rattle.texts.specs.Grammar.{LinesAreReadInTurn, or_bad_line, pieces, read_on}
 use Rattle.texts.specs.Numbers.{◌>>=◌}
 use Rattle.report_lines.specs.declared.line.Line.{Line}

@@ -1,6 +1,5 @@
 pub mod DrillRules
 pub mod Grammar
-pub mod Made
 pub mod MatchRules
 pub mod Names
 pub mod OneWay

@@ -1,5 +1,5 @@
 -- Names in a report: each once, in order of first appearance.
-use Rattle.std.specs.Prelude.{ℕ, ◌+◌, Bool, List, [], ◌∷◌, ◌++◌, slice_index_or, if◌then◌else◌, bytes_eq}
+use Rattle.std.specs.Prelude.{ℕ, ◌≡◌, ◌+◌, ◌<◌, All, Bool, Contains, List, [], ◌∷◌, ◌++◌, length, slice_index_or, if◌then◌else◌, bytes_eq}
 use Rattle.std.specs.List.{list_any}
 
 -- the name at a place, counted from 0
@@ -23,3 +23,14 @@ with_names names (name ∷ more) = with_names (with_name names name) more
 abbrev pub place_in : List (List ℕ) → List ℕ → ℕ
 place_in [] name = 0
 place_in (other ∷ others) name = if bytes_eq other name then 0 else place_in others name + 1
+
+-- the law of names that are gathered, each where it first comes
+pub record NamesGrow : Type 0 where
+  -- each of them has a place, behind whatever names they came
+  pub placed : (names xs : List (List ℕ)) → All (λ name. place_in (with_names names xs) name < length (with_names names xs)) xs
+  -- one that has a place stands there
+  pub stands : (names : List (List ℕ)) (name : List ℕ) → place_in names name < length names → name_at names (place_in names name) ≡ name
+  -- no two of them are one
+  pub differ : (xs : List (List ℕ)) (k : ℕ) → k < length (with_names [] xs) → place_in (with_names [] xs) (name_at (with_names [] xs) k) ≡ k
+  -- there are no others
+  pub no_other : (xs : List (List ℕ)) → All (Contains xs) (with_names [] xs)

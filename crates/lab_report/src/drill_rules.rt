@@ -12,7 +12,7 @@ use report_lines::{Line, ShownFirst};
 use std::alloc::Global;
 
 /// The game of every drill.
-pub(crate) fn drill_game() -> Game
+pub fn drill_game() -> Game
     ensures { result ≡ drill_game }
 {
     Game {
@@ -24,7 +24,7 @@ pub(crate) fn drill_game() -> Game
 }
 
 /// The noise of every drill: no move is flipped.
-pub(crate) fn no_noise() -> Noise
+pub fn no_noise() -> Noise
     ensures { result ≡ no_noise }
 {
     Noise { n: 0, e: 1 }

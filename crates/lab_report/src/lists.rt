@@ -43,7 +43,7 @@ impl Names {
     }
 
     /// No names yet.
-    pub(crate) fn new(alloc: Global) -> Names
+    pub fn new(alloc: Global) -> Names
         ensures { result ≡ [] }
     {
         Names {
@@ -51,8 +51,8 @@ impl Names {
         }
     }
 
-    /// Adds a name behind the others.
-    pub(crate) fn push(&mut self, name: &Name) -> Result<(), AllocFailed<Name>>
+    // Adds a name behind the others.
+    fn push(&mut self, name: &Name) -> Result<(), AllocFailed<Name>>
         ensures { OnOk result (self.new ≡ self.old ++ name.now ∷ []) }
     {
         self.items.push(*name)
@@ -68,7 +68,7 @@ impl Names {
 
     /// The place of a name, which comes behind the others where it is new.
     #[tactic(auto, using(crate::proofs::PlaceLaws::with_old, crate::proofs::PlaceLaws::with_new, crate::proofs::PlaceLaws::place_new, crate::proofs::PlaceLaws::place_le))]
-    pub(crate) fn place(&mut self, name: &Name) -> Result<u32, AllocFailed<Name>>
+    pub fn place(&mut self, name: &Name) -> Result<u32, AllocFailed<Name>>
         requires room { length self.old < 2 ^ 32 - 1 }
         ensures place { IfOk result (λ place. place ≡ place_in self.new name.now) }
         ensures before { IfOk result (λ place. place ≡ place_in self.old name.now) }
@@ -84,7 +84,7 @@ impl Names {
 }
 
 /// The place of a name; behind all where it isn't one of them.
-pub(crate) fn place_in(names: &[Name], name: &Name) -> u32
+pub fn place_in(names: &[Name], name: &Name) -> u32
     requires { length names.now < 2 ^ 32 - 1 }
     ensures { result ≡ place_in names.now name.now }
 {

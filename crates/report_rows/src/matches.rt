@@ -5,8 +5,9 @@ ghost use Rattle.lab_report.specs.Valid.{IsValid};
 use crate::shared::{changed, check_text, read, refused_line};
 use fixed_span::Span;
 use history_model::{Game, Name, Noise, Tally};
-use lab_report::{Body, Names, Noises, Report, match_report};
+use lab_report::{Body, Names, Noises, Report};
 use match_play::MatchLine;
+use report_making::match_report;
 use std::alloc::Global;
 use std::test::Fail;
 

@@ -1,14 +1,15 @@
 //! The report of a tournament against its text, which was worked out by hand.
 ghost use Rattle.std.specs.Prelude.{◌≢◌, IfOk};
 ghost use Rattle.std.specs.List.{AllPairs};
-ghost use Rattle.lab_report.specs.Made.{AreResults};
 ghost use Rattle.lab_report.specs.Valid.{IsValid};
+ghost use Rattle.report_making.specs.Made.{AreResults};
 
 use crate::shared::{changed, check_text};
 use fixed_span::Span;
 use history_model::{Game, Name, Noise};
-use lab_report::{Report, tournament_report};
+use lab_report::Report;
 use match_play::MatchLine;
+use report_making::tournament_report;
 use round_robin::{EntryLine, EntryLines, MatchLines, Rank, Totals};
 use std::alloc::Global;
 use std::test::Fail;

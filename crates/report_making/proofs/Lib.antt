@@ -1,0 +1,3 @@
+pub mod DrillMade
+pub mod Gathering
+pub mod MadeLaws

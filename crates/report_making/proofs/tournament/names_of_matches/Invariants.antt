@@ -1,0 +1,7 @@
+use Rattle.std.proofs.Common.{◌≡◌, ◌*◌, ◌≤◌, [], length, drop}
+use Rattle.lab_report.specs.Names.{with_names}
+use Rattle.lab_report.specs.Valid.{match_names}
+use Rattle.report_making.proofs.tournament.names_of_matches.Given as goal
+
+abbrev pub invariant-loop-line : goal.invariant-loop-line
+invariant-loop-line l = record { order : with_names l.order (match_names l.names (drop l.line-index l.matches)) ≡ with_names [] (match_names l.names l.matches); few : length l.order ≤ 2 * l.line-index }
