@@ -9,7 +9,7 @@ use Rattle.lab_file.specs.declared.command.Command.{Command}
 use Rattle.lab_file.specs.Lab.{LabData}
 use Rattle.round_robin.specs.Asked.{Turns}
 use Rattle.axlab_core.specs.declared.words.Form.{Form}
-use Rattle.axlab_core.specs.declared.words.Form.TheVariants.{Lab, Drill, Unbuilt, Faulty}
+use Rattle.axlab_core.specs.declared.words.Form.TheVariants.{Lab, Drill, Faulty}
 use Rattle.axlab_core.specs.declared.status.Status.{Status}
 use Rattle.axlab_core.specs.declared.status.Status.TheVariants.{Answered, Denied, Usage, ReadFault, Refused, WriteFault, NoMemory}
 use Rattle.axlab_core.specs.Complete.{Holds, HoldsLab, HoldsRefused, LacksFile, IsStatusOrMemory}

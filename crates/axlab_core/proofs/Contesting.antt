@@ -1,5 +1,5 @@
 -- The entries of a lab as the contestants of its tournament.
-use Rattle.std.proofs.Common.{◌≡◌, ◌↔◌, ℕ, ◌+◌, ◌*◌, ◌<◌, ◌≤◌, Bool, true, false, ◌&&◌, IsTrue, List, [], ◌∷◌, ◌++◌, length, map, get_or, refl, sym, ◌∙◌, ap, subst, inl, inr, arith}
+use Rattle.std.proofs.Common.{◌≡◌, ◌↔◌, ℕ, ◌+◌, ◌*◌, ◌<◌, ◌≤◌, Bool, true, false, IsTrue, List, [], ◌∷◌, ◌++◌, length, map, get_or, refl, sym, ◌∙◌, ap, subst, inl, inr, arith}
 use Rattle.std.specs.Prelude.{nat_lt, Result, Ok, Err, if◌then◌else◌}
 use Rattle.std.specs.List.{All}
 use Rattle.std.proofs.lemmas.Bool.{cases_lt, ltb-false}
@@ -14,15 +14,14 @@ use Rattle.round_robin.specs.declared.contestant.Contestant.{Contestant}
 use Rattle.history_model.specs.Game.{Payoffs}
 use Rattle.match_play.specs.declared.line.MatchLine.{MatchLine}
 use Rattle.round_robin.specs.Totals.{AreLines}
-use Rattle.round_robin.specs.Contest.{Strategy, IsContestant, AreContestants, IsPair, ArePairs, IsSurePair, AreFewTurns, pair_at, strategy_at, strategy_of, strategies_of}
+use Rattle.round_robin.specs.Contest.{Strategy, IsContestant, AreContestants, IsPair, ArePairs, IsSurePair, AreFewTurns, strategy_at, strategy_of, strategies_of}
 use Rattle.lab_file.specs.declared.tournament.TournamentJob.{TournamentJob}
 use Rattle.lab_file.specs.declared.lab.Entry.{Entry}
 use Rattle.lab_file.specs.Lab.{LabData, AreEntries, IsTournamentJob, NamesDiffer, entry_at, no_entry}
 use Rattle.lab_file.specs.Limits.{MatchesAreKept, limits_by, pair_limits, pair_is_sure, tournament_limits}
 use Rattle.lab_file.specs.Notes.{AreNoted, NotesTell}
 use Rattle.lab_file.specs.Rows.{entry_rows}
-use Rattle.lab_file.specs.Sure.{entry_is_sure}
-use Rattle.lab_file.specs.Tournament.{AreMatches, ComesBefore, TournamentsAscend, tournament_pairs}
+use Rattle.lab_file.specs.Tournament.{TournamentsAscend, tournament_pairs}
 use Rattle.axlab_core.specs.Contestants.{IsContestantOf, AreFirst, entrant_of, entrants_of, names_of}
 use Rattle.axlab_core.specs.Entrants.{Entrant, IsEntrant}
 use Rattle.axlab_core.specs.RightTournament.{AreEntrants, entrant_at, no_entrant, strategy_of_entrant}

@@ -1,5 +1,5 @@
 -- What is so of a drill's status is so of its words.
-use Rattle.std.proofs.Common.{◌≡◌, ℕ, List, [], Option, None, refl, inl, inr, ◌⊎◌}
+use Rattle.std.proofs.Common.{◌≡◌, ℕ, List, [], Option, None, inl, inr}
 use Rattle.lab_ports.specs.declared.refusal.Refusal.{Refusal}
 use Rattle.lab_ports.specs.Holding.{Holding}
 use Rattle.player_core.specs.State.{Lasting}
@@ -8,7 +8,7 @@ use Rattle.axlab_core.specs.declared.status.Status.TheVariants.{Answered, Denied
 use Rattle.axlab_core.specs.declared.words.Form.{Form}
 use Rattle.axlab_core.specs.declared.words.Form.TheVariants.{Drill}
 use Rattle.axlab_core.specs.Outcome.{OnReadFault, OnWriteFault, OnNoMemory, IfRefused, IfDenied, IsSent, OnUnwritten}
-use Rattle.axlab_core.specs.Right.{WrotePart, WroteFront, LeftOff, WhyRefused, WhyUnread}
+use Rattle.axlab_core.specs.Right.{WrotePart, LeftOff}
 
 part_drilled : (form : Form) (number : ℕ) (players : List Lasting) (name : List ℕ) (holding : Option Holding) (before now : Option (List ℕ)) → form ≡ Drill number
     → WrotePart (Drill number) players [] None before now → WrotePart form players name holding before now

@@ -1,31 +1,26 @@
 -- The machines of a drill: they are sure, so all their matches are, and all their totals are points.
-use Rattle.std.proofs.Common.{◌≡◌, ℕ, ◌+◌, ◌-◌, ◌*◌, ◌%◌, ◌^◌, ◌<◌, ◌≤◌, ◌==◌, zero, suc, ◌⊎◌, inl, inr, Bool, true, false, if◌then◌else◌, IsTrue, List, [], ◌∷◌, length, map, get_or, ℤ, pos, ◌+ℤ◌, ◌≤ℤ◌, Option, Some, None, refl, sym, ◌∙◌, ap, subst, arith, rules}
+use Rattle.std.proofs.Common.{◌≡◌, ℕ, ◌-◌, ◌*◌, ◌%◌, ◌<◌, ◌≤◌, zero, suc, ◌⊎◌, inl, inr, List, [], ◌∷◌, length, map, get_or, refl, sym, ◌∙◌, ap, subst, arith}
 use Rattle.std.specs.List.{All, range_with_len}
-use Rattle.std.proofs.lemmas.Int.{ints}
 use Rattle.std.proofs.lemmas.List.{length-map, get_or-map}
-use Rattle.std.proofs.lemmas.List.Elements.{All-head, All-tail}
 use Rattle.std.proofs.lemmas.List.FromFn.{get_or-map-range_with_len, length-map-range_with_len}
-use Rattle.history_model.specs.Automaton.{Automaton, Row, IsSure, no_row, weight_at}
-use Rattle.history_model.specs.Game.{Payoffs, IsGame}
+use Rattle.history_model.specs.Automaton.{Row, IsSure, no_row}
 use Rattle.history_model.specs.Noise.{FlipRate, no_noise}
 use Rattle.player_core.specs.declared.kind.Kind.{Kind}
-use Rattle.player_core.specs.declared.kind.Kind.TheVariants.{MemoryOne, Machine, Lookup, Plug}
+use Rattle.player_core.specs.declared.kind.Kind.TheVariants.{Machine, Plug}
 use Rattle.player_core.specs.AutomatonOf.{automaton_by, machine_automaton, machine_row}
 use Rattle.player_core.specs.State.{Lasting}
 use Rattle.player_core.specs.Sheet.{SheetData, states}
 use Rattle.player_core.specs.Entry.{entry_automaton, plug_automaton}
 use Rattle.player_core.specs.Fits.{Fits, NoPlugNamed}
-use Rattle.fixed_span.specs.Span.{Ends, point}
 use Rattle.match_play.specs.declared.line.MatchLine.{MatchLine}
-use Rattle.product_chain.specs.Expected.{IsSureMatch}
 use Rattle.round_robin.specs.declared.contestant.Contestant.{Contestant}
 use Rattle.round_robin.specs.Contest.{Strategy, IsContestant, AreContestants, IsPair, ArePairs, IsSureStrategy, IsSurePair, AreFewTurns, no_strategy, strategy_at, strategy_of, strategies_of}
-use Rattle.axlab_core.specs.Contestants.{entrant_of, entrants_of}
+use Rattle.axlab_core.specs.Contestants.{entrant_of}
 use Rattle.axlab_core.specs.Entrants.{Entrant}
 use Rattle.lab_report.specs.Valid.{drill_game}
 use Rattle.lab_file.specs.Tournament.{TournamentsAscend, tournament_pairs}
 use Rattle.round_robin.specs.Asked.{Turns, AreAsked}
-use Rattle.round_robin.specs.Totals.{AreLines, entries_of}
+use Rattle.round_robin.specs.Totals.{AreLines}
 use Rattle.axlab_core.specs.Machines.{AreMachines, AreStill, drill_job, drill_pairs, machine_strategies, still}
 use Rattle.axlab_core.proofs.Contesting.{are_pairs_of, same_strategies}
 use Rattle.axlab_core.specs.RightTournament.{strategy_of_entrant}

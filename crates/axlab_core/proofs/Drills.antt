@@ -1,5 +1,5 @@
 -- What is told of the machines of a drill is true.
-use Rattle.std.proofs.Common.{◌≡◌, ℕ, ◌+◌, ◌*◌, ◌^◌, ◌<◌, ◌≤◌, ◌==◌, Bool, true, false, List, [], ◌∷◌, length, map, get_or, ℤ, pos, ◌+ℤ◌, ◌≤ℤ◌, refl, sym, ◌∙◌, ap, subst, arith}
+use Rattle.std.proofs.Common.{◌≡◌, ℕ, ◌+◌, ◌*◌, ◌<◌, ◌≤◌, ◌==◌, Bool, List, [], ◌∷◌, length, map, get_or, ℤ, pos, refl, sym, ◌∙◌, ap, subst, arith}
 use Rattle.std.specs.List.{All, AllZip, filter, range_with_len}
 use Rattle.std.proofs.lemmas.Int.{ints}
 use Rattle.std.proofs.lemmas.List.{length-map, get_or-map}
@@ -7,14 +7,12 @@ use Rattle.std.proofs.lemmas.List.Elements.{All-head, All-tail, All-filter}
 use Rattle.std.proofs.lemmas.List.FromFn.{get_or-map-range_with_len, get_or-range_with_len, length-map-range_with_len, length-range_with_len}
 use Rattle.history_model.specs.Expectation.{WeightsDecide, player}
 use Rattle.history_model.specs.Game.{IsGame}
-use Rattle.history_model.specs.Noise.{no_noise}
 use Rattle.player_core.specs.declared.kind.Kind.TheVariants.{MemoryOne, Machine, Lookup}
 use Rattle.player_core.specs.State.{Lasting}
-use Rattle.player_core.specs.Sheet.{SheetData, IsSheet}
-use Rattle.player_core.specs.Entry.{entry_automaton}
+use Rattle.player_core.specs.Sheet.{SheetData}
 use Rattle.player_core.specs.Fits.{Fits}
 use Rattle.player_core.specs.Rule.{FollowsRule}
-use Rattle.fixed_span.specs.Span.{Ends, Fraction, Holds, add, point, score_units}
+use Rattle.fixed_span.specs.Span.{Ends, Fraction, Holds, point, score_units}
 use Rattle.match_play.specs.declared.line.MatchLine.{MatchLine}
 use Rattle.product_chain.specs.Expected.{expected_score}
 use Rattle.round_robin.specs.declared.ranking.Rank.TheVariants.{At}
@@ -22,17 +20,17 @@ use Rattle.round_robin.specs.declared.tables.EntryLine.{EntryLine}
 use Rattle.round_robin.specs.Contest.{Strategy, IsPair, ArePairs, IsSurePair, no_strategy, strategy_at}
 use Rattle.round_robin.specs.Laws.{LinesHold}
 use Rattle.round_robin.specs.Ranks.{greater_among, others, rank_of, span_at}
-use Rattle.round_robin.specs.Totals.{IsLineBetween, AreLines, entry_of, entries_of, total_of, totals_of}
-use Rattle.round_robin.specs.Truth.{IsTrueTournament, SumsAreHeld, TournamentsAreTrue, expects_of, nothing, plus, true_total, true_totals, true_rank}
+use Rattle.round_robin.specs.Totals.{AreLines, entry_of, entries_of, total_of, totals_of}
+use Rattle.round_robin.specs.Truth.{IsTrueTournament, SumsAreHeld, TournamentsAreTrue, expects_of, nothing, true_total, true_totals, true_rank}
 use Rattle.lab_report.specs.Valid.{drill_game}
-use Rattle.lab_file.specs.Tournament.{AreMatches, TournamentsAscend}
+use Rattle.lab_file.specs.Tournament.{TournamentsAscend}
 use Rattle.axlab_core.specs.Entrants.{Entrant, expects_in}
 use Rattle.axlab_core.specs.Machines.{AreMachines, IsSmallTotal, IsWhole, drill_job, drill_pairs, first_of, first_places, is_first, line_at, machine_expects, machine_strategies, machine_totals, no_line, still, sum_of, sum_of_totals, total_at}
 use Rattle.axlab_core.specs.RightTournament.{entrant_at, no_entrant, strategy_of_entrant}
 use Rattle.axlab_core.proofs.ByRule.{expects_alike}
 use Rattle.axlab_core.proofs.Contesting.{are_pairs}
 use Rattle.axlab_core.proofs.Drilling.{entry_sure}
-use Rattle.axlab_core.proofs.Points.{IsPaid, ArePaid, IsPaidUpTo, IsPoint, played_points, rank_known, total_paid}
+use Rattle.axlab_core.proofs.Points.{ArePaid, IsPoint, played_points, rank_known, total_paid}
 use Rattle.axlab_core.proofs.TableLines.{places_inside}
 use Rattle.axlab_core.proofs.Tables.{same_totals}
 

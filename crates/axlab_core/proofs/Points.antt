@@ -1,5 +1,5 @@
 -- Spans that are points: their sums are, and their order is always known.
-use Rattle.std.proofs.Common.{◌≡◌, ℕ, ◌+◌, ◌*◌, ◌^◌, ◌<◌, ◌≤◌, ◌==◌, Bool, true, false, ◌&&◌, ◌||◌, if◌then◌else◌, List, [], ◌∷◌, ◌++◌, length, map, take, drop, get_or, ℤ, pos, ◌+ℤ◌, ◌≤ℤ◌, ◌<ℤ◌, Option, Some, None, refl, sym, ◌∙◌, ap, subst, arith, rules}
+use Rattle.std.proofs.Common.{◌≡◌, ℕ, ◌+◌, ◌*◌, ◌^◌, ◌==◌, Bool, true, false, ◌&&◌, ◌||◌, if◌then◌else◌, List, [], ◌∷◌, length, take, drop, ℤ, pos, ◌≤ℤ◌, Option, Some, None, refl, ◌∙◌, ap, arith, rules}
 use Rattle.std.specs.Prelude.{int_lt}
 use Rattle.std.specs.Ordering.{int_eq}
 use Rattle.std.specs.List.{All, list_any}
@@ -11,16 +11,14 @@ use Rattle.history_model.specs.Game.{Payoffs}
 use Rattle.history_model.specs.Noise.{FlipRate}
 use Rattle.history_model.specs.declared.tally.Tally.{Tally}
 use Rattle.fixed_span.specs.declared.ordering.Verdict.TheVariants as verdicts
-use Rattle.fixed_span.specs.Span.{Ends, add, point}
+use Rattle.fixed_span.specs.Span.{Ends, point}
 use Rattle.fixed_span.specs.Verdict.{is_level, verdict}
 use Rattle.match_play.specs.declared.line.MatchLine.{MatchLine}
 use Rattle.product_chain.specs.Expected.{IsSureMatch}
-use Rattle.round_robin.specs.declared.ranking.Rank.{Rank}
-use Rattle.round_robin.specs.declared.ranking.Rank.TheVariants.{At, Undecided}
-use Rattle.round_robin.specs.Laws.{IsScoreSpan}
+use Rattle.round_robin.specs.declared.ranking.Rank.TheVariants.{At}
 use Rattle.round_robin.specs.Line.{IsScored}
 use Rattle.round_robin.specs.Ranks.{greater_among, is_undecided, others, rank_of, span_at, undecided_among}
-use Rattle.round_robin.specs.Totals.{IsSummable, own_score, total_of}
+use Rattle.round_robin.specs.Totals.{total_of}
 
 abbrev pub IsPoint : Ends → Type 0
 IsPoint span = span.lo ≡ span.hi

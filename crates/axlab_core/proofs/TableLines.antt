@@ -1,11 +1,10 @@
 -- The match lines of a tournament: they can be shown, and are right.
-use Rattle.std.proofs.Common.{◌≡◌, ℕ, ◌+◌, ◌*◌, ◌<◌, ◌≤◌, pos, ◌≤ℤ◌, List, [], ◌∷◌, length, map, get_or, Option, Some, None, refl, sym, ◌∙◌, ap, subst, arith}
+use Rattle.std.proofs.Common.{◌≡◌, ℕ, ◌+◌, ◌*◌, ◌<◌, ◌≤◌, List, length, get_or, Option, Some, None, sym, ◌∙◌, ap, subst, arith}
 use Rattle.std.specs.Prelude.{IfSome}
-use Rattle.std.specs.List.{All, AllZip}
+use Rattle.std.specs.List.{All}
 use Rattle.std.proofs.lemmas.Int.{ints}
 use Rattle.std.proofs.Math.Nat.{mul-le-mul}
 use Rattle.std.proofs.lemmas.List.{length-map, get_or-map}
-use Rattle.std.proofs.lemmas.List.Elements.{All-head, All-tail}
 use Rattle.history_model.specs.Automaton.{Automaton}
 use Rattle.history_model.specs.Game.{Payoffs, IsGame}
 use Rattle.history_model.specs.Noise.{FlipRate}
@@ -18,10 +17,10 @@ use Rattle.player_core.specs.Fits.{Fits}
 use Rattle.round_robin.specs.declared.contestant.Contestant.{Contestant}
 use Rattle.round_robin.specs.declared.tables.Totals.{Totals}
 use Rattle.round_robin.specs.Contest.{Strategy, IsPair, ArePairs, strategy_at, strategies_of}
-use Rattle.round_robin.specs.Laws.{LinesHold, IsScoreSpan, IsInRange}
-use Rattle.round_robin.specs.Line.{IsLineOf, IsScored}
+use Rattle.round_robin.specs.Laws.{LinesHold, IsScoreSpan}
+use Rattle.round_robin.specs.Line.{IsScored}
 use Rattle.round_robin.specs.Totals.{IsLineBetween, AreLines, pairs_of, entries_of}
-use Rattle.lab_report.specs.Valid.{IsScore, IsCounted, IsShowable, IsMatchOf}
+use Rattle.lab_report.specs.Valid.{IsScore, IsCounted, IsShowable}
 use Rattle.report_making.specs.Made.{AreResults}
 
 -- ---- one line

@@ -1,5 +1,5 @@
 -- The report that is made of a tournament's lines is right.
-use Rattle.std.proofs.Common.{◌≡◌, ℕ, ◌+◌, ◌<◌, ◌≤◌, List, [], ◌∷◌, length, map, get_or, Option, Some, None, Result, Ok, Err, IfOk, refl, sym, ◌∙◌, ap, subst, arith}
+use Rattle.std.proofs.Common.{◌≡◌, ℕ, ◌<◌, List, [], ◌∷◌, length, map, get_or, Some, Result, Ok, Err, IfOk, refl, sym, ◌∙◌, ap, subst, arith}
 use Rattle.std.specs.List.{All, AllZip, range_with_len}
 use Rattle.std.proofs.lemmas.List.{length-map, get_or-map}
 use Rattle.std.proofs.lemmas.List.Elements.{All-head, All-tail}
@@ -13,15 +13,13 @@ use Rattle.player_core.specs.Fits.{Fits}
 use Rattle.player_core.specs.Rule.{FollowsRule}
 use Rattle.fixed_span.specs.Span.{Fraction, Holds, score_units}
 use Rattle.match_play.specs.declared.line.MatchLine.{MatchLine}
-use Rattle.product_chain.specs.Expected.{expected_score}
 use Rattle.report_lines.specs.declared.line.ShownMatch.{ShownMatch}
 use Rattle.round_robin.specs.declared.contestant.Contestant.{Contestant}
 use Rattle.round_robin.specs.declared.tables.EntryLine.{EntryLine}
 use Rattle.round_robin.specs.declared.tables.Totals.{Totals}
 use Rattle.round_robin.specs.declared.ranking.Rank.TheVariants.{At}
 use Rattle.round_robin.specs.Asked.{Turns, AreAsked}
-use Rattle.round_robin.specs.Contest.{Strategy, IsPair, ArePairs, strategies_of, strategy_at}
-use Rattle.round_robin.specs.Line.{IsLineOf, IsScored}
+use Rattle.round_robin.specs.Contest.{IsPair, ArePairs, strategies_of}
 use Rattle.round_robin.specs.Ranks.{rank_of}
 use Rattle.round_robin.specs.Totals.{IsLineBetween, AreLines, pairs_of, entry_of, entries_of, total_of, totals_of}
 use Rattle.round_robin.specs.Truth.{IsTrueTournament, TournamentsAreTrue, expects_of, nothing, own_expected, plus, true_total, true_totals, true_rank}
@@ -34,10 +32,9 @@ use Rattle.lab_file.specs.declared.lab.Entry.{Entry}
 use Rattle.lab_file.specs.declared.tournament.TournamentJob.{TournamentJob}
 use Rattle.lab_file.specs.Lab.{LabData, entry_at, no_entry}
 use Rattle.lab_file.specs.Tournament.{TournamentsAscend, tournament_pairs}
-use Rattle.axlab_core.specs.Contestants.{AreFirst, entrant_of, entrants_of, names_of}
-use Rattle.axlab_core.specs.Entrants.{Entrant}
+use Rattle.axlab_core.specs.Contestants.{AreFirst, entrants_of, names_of}
 use Rattle.axlab_core.specs.RightLine.{IsRightLine}
-use Rattle.axlab_core.specs.RightTournament.{AreEntrants, IsRightPair, IsRightEntry, IsRightTournament, IsAskedTournament, entrant_at, expects_at, strategy_of_entrant}
+use Rattle.axlab_core.specs.RightTournament.{AreEntrants, IsRightPair, IsRightEntry, IsRightTournament, IsAskedTournament, entrant_at, expects_at}
 use Rattle.axlab_core.proofs.ByRule.{expects_alike, right_line}
 use Rattle.axlab_core.proofs.Contesting.{are_entrants, are_pairs, entrant_there, same_strategies, strategy_there}
 use Rattle.axlab_core.proofs.Reports.{placed}

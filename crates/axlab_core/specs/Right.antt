@@ -1,5 +1,5 @@
 -- What the output of a command must say, and why the program may answer otherwise.
-use Rattle.std.specs.Prelude.{◌≡◌, ℕ, List, take, Option, Some, Ok, Err, ◌⊎◌}
+use Rattle.std.specs.Prelude.{◌≡◌, ℕ, List, take, Option, Ok, Err, ◌⊎◌}
 use Rattle.player_core.specs.State.{Lasting}
 use Rattle.player_core.specs.Bench.{notes_of}
 use Rattle.round_robin.specs.Asked.{Turns}

@@ -1,6 +1,5 @@
 use Rattle.std.proofs.Common.{◌≡◌, true, ◌++◌, map, drop}
 use Rattle.std.specs.List.{All}
-use Rattle.history_model.specs.Noise.{no_noise}
 use Rattle.axlab_core.specs.Contestants.{entrants_of}
 use Rattle.axlab_core.specs.Machines.{still}
 use Rattle.axlab_core.proofs.drill_job.contestants.Given as goal

@@ -1,9 +1,8 @@
-use Rattle.std.proofs.Common.{length, ap, sym, ◌∙◌, arith}
-use Rattle.history_model.specs.Game.{IsGame}
+use Rattle.std.proofs.Common.{length, ap, ◌∙◌}
 use Rattle.round_robin.specs.Totals.{entries_of}
 use Rattle.lab_file.specs.Lab.{LabData}
 use Rattle.lab_file.specs.Tournament.{tournament_pairs}
-use Rattle.axlab_core.proofs.Contesting.{are_contestants, are_pairs, are_pairs_of, are_few_turns, few_turns_of, lines_of}
+use Rattle.axlab_core.proofs.Contesting.{are_contestants, are_pairs, are_pairs_of, are_few_turns, few_turns_of}
 use Rattle.axlab_core.proofs.TableLines.{results_shown_on}
 use Rattle.axlab_core.proofs.tournament.results.Goals as goal
 
