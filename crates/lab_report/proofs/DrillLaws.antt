@@ -56,12 +56,6 @@ number_back number h = ltb_back number (2 ^ 64) h
 pub first_back : (names : List (List ℕ)) (line : ℕ × ℤ) → All IsName names → IsFirstOf (length names) line → is_first (shown_first names line) ≡ true
 first_back names line are_names v = both_back (is_name (name_at names line.0)) (are_points line.1) (are_names line.0 [] v.inside) (total_back line.1 v.total)
 
-pub all_first_back : (names : List (List ℕ)) (first : List (ℕ × ℤ)) → All IsName names → All (IsFirstOf (length names)) first → All (λ line. is_first (shown_first names line) ≡ true) first
-all_first_back names first are_names machines k d h = first_back names _ are_names (machines k d h)
-
-pub all_inside : (count : ℕ) (first : List (ℕ × ℤ)) → All (IsFirstOf count) first → All (λ line. line.0 < count) first
-all_inside count first machines k d h = (machines k d h).inside
-
 -- ---- names that grow
 
 firsts_stay : (names more : List (List ℕ)) → Grows names more → (first : List (ℕ × ℤ)) → All (IsFirstOf (length names)) first → first_lines more first ≡ first_lines names first

@@ -3,6 +3,7 @@ pub mod DrillLaws
 pub mod Growth
 pub mod Loops
 pub mod MatchRuns
+pub mod Numbered
 pub mod Piecing
 pub mod PlaceLaws
 pub mod Ranges
@@ -12,4 +13,3 @@ pub mod States
 pub mod TableAdds
 pub mod TableLaws
 pub mod TableRuns
-pub mod Written

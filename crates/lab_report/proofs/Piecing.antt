@@ -1,33 +1,28 @@
 -- A piece from the front of what is to come.
-use Rattle.std.proofs.Common.{◌≡◌, ℕ, ◌+◌, ◌-◌, min, List, length, take, drop, true, refl, sym, ◌∙◌, ap, inl, inr, arith}
-use Rattle.std.proofs.lemmas.List.{drop-drop, length-drop, take_all, drop_all}
+use Rattle.std.proofs.Common.{◌≡◌, ◌⊎◌, ℕ, ◌<◌, ◌≤◌, min, List, [], ◌++◌, length, take, drop, sym, ◌∙◌, ap, inl, inr, arith}
 use Rattle.std.proofs.lemmas.Bool.{cases_lt}
-use Rattle.lab_report.specs.declared.pieces.Pieces.{Pieces}
-use Rattle.lab_report.specs.Pieces.{to_come}
+use Rattle.std.proofs.lemmas.List.{append-nil, drop-append-le, drop_all, take-append-le, take_all}
+
+-- where less than a piece is ready, no line is left
+none_left : (ready rest : List ℕ) → (4096 ≤ length ready) ⊎ (rest ≡ []) → length ready < 4096 → rest ≡ []
+none_left ready rest (inl whole) short = absurd (omega (arith, whole, short))
+none_left ready rest (inr none) short = none
+
+all_ready : (ready rest come : List ℕ) → rest ≡ [] → ready ++ rest ≡ come → ready ≡ come
+all_ready ready rest come none from = sym (append-nil ready) ∙ ap (λ (t : List ℕ). ready ++ t) (sym none) ∙ from
 
 -- the first of so many, or all where there are fewer
-front_of : (count : ℕ) (rest : List ℕ) → count ≡ min (length rest) 4096 → take count rest ≡ take 4096 rest
-front_of count rest is = elim (cases_lt (length rest) 4096) [
-  | inl short ↦ take_all count rest (omega (arith, is, short)) ∙ sym (take_all 4096 rest (omega (arith, short)))
-  | inr long ↦ let all : count ≡ 4096 = omega (arith, is, long) in ap (λ n. take n rest) all
+pub front_is : (ready rest come : List ℕ) (count : ℕ) → (4096 ≤ length ready) ⊎ (rest ≡ []) → ready ++ rest ≡ come → count ≡ min (length ready) 4096 → take count ready ≡ take 4096 come
+front_is ready rest come count enough from is = elim (cases_lt (length ready) 4096) [
+  | inl short ↦ take_all count ready (omega (arith, is, short)) ∙ sym (take_all 4096 ready (omega (arith, short))) ∙ ap (take 4096) (all_ready ready rest come (none_left ready rest enough short) from)
+  | inr long ↦ let all : count ≡ 4096 = omega (arith, is, long) in
+      ap (λ n. take n ready) all ∙ sym (take-append-le 4096 ready rest (omega (arith, long))) ∙ ap (take 4096) from
 ]
 
-back_of : (count : ℕ) (rest : List ℕ) → count ≡ min (length rest) 4096 → drop count rest ≡ drop 4096 rest
-back_of count rest is = elim (cases_lt (length rest) 4096) [
-  | inl short ↦ drop_all count rest (omega (arith, is, short)) ∙ sym (drop_all 4096 rest (omega (arith, short)))
-  | inr long ↦ let all : count ≡ 4096 = omega (arith, is, long) in ap (λ n. drop n rest) all
+pub rest_is : (ready rest come : List ℕ) (count : ℕ) → (4096 ≤ length ready) ⊎ (rest ≡ []) → ready ++ rest ≡ come → count ≡ min (length ready) 4096 → drop count ready ++ rest ≡ drop 4096 come
+rest_is ready rest come count enough from is = elim (cases_lt (length ready) 4096) [
+  | inl short ↦ let none = none_left ready rest enough short in
+      ap (λ (t : List ℕ). t ++ rest) (drop_all count ready (omega (arith, is, short))) ∙ none ∙ sym (drop_all 4096 ready (omega (arith, short))) ∙ ap (drop 4096) (all_ready ready rest come none from)
+  | inr long ↦ let all : count ≡ 4096 = omega (arith, is, long) in
+      ap (λ n. drop n ready ++ rest) all ∙ sym (drop-append-le 4096 ready rest (omega (arith, long))) ∙ ap (drop 4096) from
 ]
-
-pub piece_is : (piece rest come : List ℕ) (count : ℕ) → piece ≡ take count rest → rest ≡ come → count ≡ min (length rest) 4096 → piece ≡ take 4096 come
-piece_is piece rest come count is from few = is ∙ front_of count rest few ∙ ap (take 4096) from
-
-pub rest_is : (text come : List ℕ) (done count : ℕ) → drop done text ≡ come → count ≡ min (length (drop done text)) 4096 → drop (done + count) text ≡ drop 4096 come
-rest_is text come done count from few = sym (drop-drop count done text) ∙ back_of count (drop done text) few ∙ ap (drop 4096) from
-
--- what is to come of a text that is made
-pub come_made : (pieces : Pieces) → pieces.made ≡ true → drop pieces.done pieces.text.items ≡ to_come pieces
-come_made pieces made = rw made refl
-
--- what stands behind so many bytes, as a slice to the end
-pub behind : (bytes text : List ℕ) (done : ℕ) → bytes ≡ text → take (length bytes - done) (drop done bytes) ≡ drop done text
-behind bytes text done same = take_all (length bytes - done) (drop done bytes) (omega (arith, length-drop done bytes)) ∙ ap (drop done) same

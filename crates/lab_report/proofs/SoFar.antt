@@ -1,6 +1,8 @@
 -- The lines that led to a state, and that they are those of a valid report.
 use Rattle.std.proofs.Common.{◌≡◌, ℕ, Bool, true, false, cond, ◌&&◌, List, [], ◌∷◌, ◌++◌, Option, Some, None, refl, sym, ap, ◌∙◌, append_assoc}
+use Rattle.std.specs.List.{All}
 use Rattle.std.proofs.lemmas.List.{append-nil}
+use Rattle.std.proofs.lemmas.List.Elements.{All-cons, All-nil}
 use Rattle.history_model.specs.Game.{Payoffs, IsGame}
 use Rattle.history_model.specs.Noise.{FlipRate, IsFlipRate, no_noise}
 use Rattle.texts.specs.Grammar.{run}
@@ -84,3 +86,15 @@ body_runs game noise names (bodies.Drill number first sum) g n v fixed =
 
 pub runs : (r : Report) → IsValid r → run grammar states.Start (lines_of r) ≡ Some (whole r)
 runs r v = body_runs r.game r.noise r.names r.body v.game v.noise (record { are_names = v.are_names; shown = v.shown; holds = v.body }) v.fixed
+
+-- ---- the lines of a valid report can be printed
+
+run_prints : (is : List Line) (s end : State) → run grammar s is ≡ Some end → All (λ i. is_line i ≡ true) is
+run_prints [] s end e = All-nil (λ i. is_line i ≡ true)
+run_prints (i ∷ is) s end e =
+    let w = went (is_line i && allows s i) (run grammar (after s i) is) end e in
+    let b = both_true (is_line i) (allows s i) w.0 in
+    All-cons (λ i. is_line i ≡ true) i is b.0 (run_prints is (after s i) end w.1)
+
+pub lines_print : (r : Report) → IsValid r → All (λ i. is_line i ≡ true) (lines_of r)
+lines_print r v = run_prints (lines_of r) states.Start (whole r) (runs r v)

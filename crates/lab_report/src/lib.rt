@@ -3,6 +3,7 @@
 
 mod drill_rules;
 mod laws;
+mod lines;
 mod lists;
 mod match_rules;
 mod pieces;

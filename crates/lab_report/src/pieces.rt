@@ -1,32 +1,40 @@
 //! The text of a report, piece by piece.
-ghost use Rattle.std.specs.Prelude.{◌≡◌, ◌↔◌, ◌≤◌, ◌<◌, [], true, false, vec_len, take, drop, length, IfOk, OnOk, OnErr};
+ghost use Rattle.std.specs.Prelude.{◌≡◌, ◌↔◌, ◌≤◌, [], false, vec_len, take, drop, IfOk, OnOk, OnErr};
 ghost use Rattle.lab_report.specs.OneWay.{valid_prop};
 ghost use Rattle.lab_report.specs.Text.{report_text};
 ghost use Rattle.lab_report.specs.Valid.{IsValid};
 
-use crate::{Report, write_report};
+use crate::Report;
+use crate::lines::line_at;
+use crate::writing::add_line;
 use history_model::NoMemory;
 use std::alloc::Global;
 
 // The most bytes of a piece.
 const MOST: usize = 4096;
 
-/// The text of a report, which is given out in pieces from its front. Contracts see the bytes that are
-/// still to come.
+/// The text of a report, which is given out in pieces from its front. Holds no more of it than a piece and
+/// a line. Contracts see the bytes that are still to come.
 #[derive(Drop)]
 pub struct Pieces<'a> {
     report: &'a Report,
     alloc: Global,
-    // The text, which is made for the first piece, and how many bytes of it were given out.
-    made: bool,
-    text: Vec<u8>,
-    done: usize,
+    // What of the lines before the place `next` was not given out.
+    ready: Vec<u8>,
+    next: usize,
     ghost valid: { IsValid report.now } by { valid_prop report.now },
-    ghost inside: { done ≤ vec_len text },
+}
+
+// Takes bytes away from the front.
+fn cut_front(bytes: &mut Vec<u8>, count: usize)
+    requires { count ≤ vec_len bytes.old }
+    ensures { bytes.new.items ≡ drop count bytes.old.items }
+{
+    bytes.drain(..count);
 }
 
 impl<'a> Pieces<'a> {
-    ghost use Rattle.lab_report.specs.Pieces.{to_come};
+    ghost use Rattle.lab_report.specs.Pieces.{IsFrontReady, to_come};
 
     /// The pieces of a report, all of which are still to come. Takes no memory.
     pub fn new(alloc: Global, report: &'a Report) -> Pieces<'a>
@@ -36,21 +44,25 @@ impl<'a> Pieces<'a> {
         Pieces {
             report,
             alloc,
-            made: false,
-            text: Vec::new(alloc),
-            done: 0,
+            ready: Vec::new(alloc),
+            next: 0,
         }
     }
 
-    // Makes the text, where it isn't made yet.
-    fn make(&mut self) -> Result<(), NoMemory>
-        ensures made { OnOk result (self.new.made ≡ true) }
+    // Writes lines until they fill a piece, or none is left.
+    fn make_ready(&mut self) -> Result<(), NoMemory>
+        ensures ready { OnOk result (IsFrontReady self.new) }
         ensures stays { to_come self.new ≡ to_come self.old }
     {
-        if !self.made {
-            self.text = write_report(self.alloc, self.report)?;
-            self.done = 0;
-            self.made = true;
+        let mut text = String::new(self.alloc);
+        while self.ready.len() < MOST {
+            let Some(line) = line_at(self.report, self.next) else {
+                return Ok(());
+            };
+            text.clear();
+            add_line(&mut text, &line)?;
+            self.ready.extend_from_slice(text.as_bytes())?;
+            self.next += 1;
         }
         Ok(())
     }
@@ -69,11 +81,10 @@ impl<'a> Pieces<'a> {
         ensures stays { OnErr result (to_come self.new ≡ to_come self.old) }
     {
         piece.clear();
-        self.make()?;
-        let rest = &self.text[self.done..];
-        let count = rest.len().min(MOST);
-        piece.extend_from_slice(&rest[..count])?;
-        self.done += count;
+        self.make_ready()?;
+        let count = self.ready.len().min(MOST);
+        piece.extend_from_slice(&self.ready[..count])?;
+        cut_front(&mut self.ready, count);
         Ok(count > 0)
     }
 }
