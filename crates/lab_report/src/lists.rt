@@ -1,5 +1,5 @@
 //! Lists of a report.
-ghost use Rattle.std.specs.Prelude.{◌≡◌, ◌<◌, ◌^◌, ◌-◌, ◌++◌, ◌∷◌, [], length, IfOk, OnOk};
+ghost use Rattle.std.specs.Prelude.{◌≡◌, ◌<◌, ◌^◌, ◌-◌, ◌++◌, ◌∷◌, [], length, IfOk, OnErr, OnOk};
 ghost use Rattle.lab_report.specs.Names.{name_at, place_in, with_name};
 
 use history_model::{Name, Noise};
@@ -53,7 +53,8 @@ impl Names {
 
     // Adds a name behind the others.
     fn push(&mut self, name: &Name) -> Result<(), AllocFailed<Name>>
-        ensures { OnOk result (self.new ≡ self.old ++ name.now ∷ []) }
+        ensures added { OnOk result (self.new ≡ self.old ++ name.now ∷ []) }
+        ensures kept { OnErr result (self.new ≡ self.old) }
     {
         self.items.push(*name)
     }
@@ -67,12 +68,17 @@ impl Names {
     }
 
     /// The place of a name, which comes behind the others where it is new.
+    ///
+    /// # Errors
+    ///
+    /// `AllocFailed` alone. Then the names stay.
     #[tactic(auto, using(crate::proofs::PlaceLaws::with_old, crate::proofs::PlaceLaws::with_new, crate::proofs::PlaceLaws::place_new, crate::proofs::PlaceLaws::place_le))]
     pub fn place(&mut self, name: &Name) -> Result<u32, AllocFailed<Name>>
         requires room { length self.old < 2 ^ 32 - 1 }
         ensures place { IfOk result (λ place. place ≡ place_in self.new name.now) }
         ensures before { IfOk result (λ place. place ≡ place_in self.old name.now) }
         ensures names { OnOk result (self.new ≡ with_name self.old name.now) }
+        ensures kept { OnErr result (self.new ≡ self.old) }
     {
         let place = place_in(&self.items, name);
         if (place as usize) < self.items.len() {
