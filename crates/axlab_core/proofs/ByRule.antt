@@ -9,7 +9,7 @@ use Rattle.player_core.specs.declared.kind.Kind.{Kind}
 use Rattle.player_core.specs.declared.kind.Kind.TheVariants.{MemoryOne, Machine, Lookup, Plug}
 use Rattle.player_core.specs.State.{Lasting}
 use Rattle.player_core.specs.Sheet.{SheetData, IsSheet}
-use Rattle.player_core.specs.Fits.{Fits}
+use Rattle.player_core.specs.Fits.{SidesFit}
 use Rattle.player_core.specs.Entry.{entry_automaton, plug_automaton}
 use Rattle.player_core.specs.Rule.{own_rule, rule, FollowsRule}
 use Rattle.match_play.specs.declared.line.MatchLine.{MatchLine}
@@ -22,7 +22,7 @@ use Rattle.axlab_core.specs.RightLine.{IsRightScore, IsRightLine, IsRightBetween
 holds_same : (span : Ends) (x y : Fraction) → x ≡ y → Holds score_units span x → Holds score_units span y
 holds_same span x y same holds = rw (← same) holds
 
-module _ (vectors : FollowsRule MemoryOne) (machines : FollowsRule Machine) (tables : FollowsRule Lookup) (decide : WeightsDecide) (players on_the_right : List Lasting) (fits : Fits players on_the_right) where
+module _ (vectors : FollowsRule MemoryOne) (machines : FollowsRule Machine) (tables : FollowsRule Lookup) (decide : WeightsDecide) (players on_the_right : List Lasting) (fits : SidesFit players on_the_right) where
   by_kind : (kind : Kind) (sheet : SheetData) (history : History) → IsSheet sheet → sheet.kind ≡ kind
       → own_rule (entry_automaton players sheet) history ≡ rule sheet (plug_automaton players sheet.plug) history
   by_kind MemoryOne sheet history valid is = vectors sheet (plug_automaton players sheet.plug) history valid is

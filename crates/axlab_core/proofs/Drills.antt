@@ -10,7 +10,7 @@ use Rattle.history_model.specs.Game.{IsGame}
 use Rattle.player_core.specs.declared.kind.Kind.TheVariants.{MemoryOne, Machine, Lookup}
 use Rattle.player_core.specs.State.{Lasting}
 use Rattle.player_core.specs.Sheet.{SheetData}
-use Rattle.player_core.specs.Fits.{Fits}
+use Rattle.player_core.specs.Fits.{SidesFit}
 use Rattle.player_core.specs.Rule.{FollowsRule}
 use Rattle.fixed_span.specs.Span.{Ends, Fraction, Holds, point, score_units}
 use Rattle.match_play.specs.declared.line.MatchLine.{MatchLine}
@@ -127,7 +127,7 @@ module _ (lines_hold : LinesHold) (players : List Lasting) (sheets : List SheetD
   rank_there : (i : ℕ) → i < 64 → rank_of (totals_of 64 lines) i ≡ At (1 + greater_among (others (totals_of 64 lines) i) (span_at (totals_of 64 lines) i))
   rank_there i inside = rank_known (totals_of 64 lines) i all_points (subst IsPoint (sym (span_there i inside)) (total_point i))
 
-  module _ (vectors : FollowsRule MemoryOne) (machines : FollowsRule Machine) (tables : FollowsRule Lookup) (decide : WeightsDecide) (on_the_right : List Lasting) (fits : Fits players on_the_right)
+  module _ (vectors : FollowsRule MemoryOne) (machines : FollowsRule Machine) (tables : FollowsRule Lookup) (decide : WeightsDecide) (on_the_right : List Lasting) (fits : SidesFit players on_the_right)
       (true_of : TournamentsAreTrue) where
     truth : IsTrueTournament (machine_strategies players sheets) drill_game drill_job.turns drill_pairs lines
     truth =

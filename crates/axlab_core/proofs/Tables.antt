@@ -9,7 +9,7 @@ use Rattle.player_core.specs.declared.bench.PlugNote.{PlugNote}
 use Rattle.player_core.specs.declared.kind.Kind.TheVariants.{MemoryOne, Machine, Lookup}
 use Rattle.player_core.specs.State.{Lasting}
 use Rattle.player_core.specs.Sheet.{IsSheet}
-use Rattle.player_core.specs.Fits.{Fits}
+use Rattle.player_core.specs.Fits.{SidesFit}
 use Rattle.player_core.specs.Rule.{FollowsRule}
 use Rattle.fixed_span.specs.Span.{Fraction, Holds, score_units}
 use Rattle.match_play.specs.declared.line.MatchLine.{MatchLine}
@@ -85,7 +85,7 @@ first_same x y xs ys e = cc
 rest_same : {X : Type 0} (x y : X) (xs ys : List X) → x ∷ xs ≡ y ∷ ys → xs ≡ ys
 rest_same x y xs ys e = cc
 
-module _ (vectors : FollowsRule MemoryOne) (machines : FollowsRule Machine) (tables : FollowsRule Lookup) (decide : WeightsDecide) (players on_the_right : List Lasting) (fits : Fits players on_the_right) (notes : List PlugNote) (lab : LabData) (contestants : List Contestant) (first : AreFirst notes lab (length lab.entries) contestants) where
+module _ (vectors : FollowsRule MemoryOne) (machines : FollowsRule Machine) (tables : FollowsRule Lookup) (decide : WeightsDecide) (players on_the_right : List Lasting) (fits : SidesFit players on_the_right) (notes : List PlugNote) (lab : LabData) (contestants : List Contestant) (first : AreFirst notes lab (length lab.entries) contestants) where
   inside_contest : (place : ℕ) → place < length lab.entries → place < length contestants
   inside_contest place inside = omega (arith, inside, first.count_is)
 
@@ -214,7 +214,7 @@ module _ (vectors : FollowsRule MemoryOne) (machines : FollowsRule Machine) (tab
     right_table (Err error) job_is made_is valid shows = tt
 
 -- the players of a tournament of these contestants were asked
-pub asked_table : {T E : Type 0} (players on_the_right : List Lasting) → Fits players on_the_right → (lab : LabData) (contestants : List Contestant) (job : TournamentJob) (made : Result T E)
+pub asked_table : {T E : Type 0} (players on_the_right : List Lasting) → SidesFit players on_the_right → (lab : LabData) (contestants : List Contestant) (job : TournamentJob) (made : Result T E)
     (before now : Turns)
     → lab.jobs.tournament_job ≡ Some job → AreEntrants lab (entrants_of contestants)
     → AreAsked (strategies_of players contestants) job.turns (tournament_pairs job (length lab.entries)) before now → IfOk made (λ _. IsAskedTournament players lab before now)

@@ -11,7 +11,7 @@ pub mod RightLine
 pub mod RightMatch
 pub mod RightTournament
 pub mod Sent
-pub mod Sides
+pub mod OnBench
 pub mod Steps
 pub mod Texts
 pub mod WordList
