@@ -5,8 +5,6 @@ mod draws;
 mod laws;
 mod machines;
 mod names;
-#[cfg(test)]
-mod tests;
 
 pub use laws::drill_names_differ;
 pub use machines::drill_sheets;

@@ -6,8 +6,6 @@ mod mixing;
 mod ordering;
 mod reading;
 mod span;
-#[cfg(test)]
-mod tests;
 mod writing;
 
 pub use laws::{spans_are_exact, verdicts_are_true};

@@ -4,6 +4,3 @@
 mod game;
 
 pub use game::read_game;
-
-#[cfg(test)]
-mod tests;

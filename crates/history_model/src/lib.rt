@@ -9,8 +9,6 @@ mod moves;
 mod name;
 mod noise;
 mod tally;
-#[cfg(test)]
-mod tests;
 mod whole;
 
 pub use game::Game;

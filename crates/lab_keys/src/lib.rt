@@ -15,6 +15,3 @@ pub use keys::{
 pub use values::{
     array_of, number_within, pair_of, table_of, text_of, truth_of, whole_of, wholes_of,
 };
-
-#[cfg(test)]
-mod tests;

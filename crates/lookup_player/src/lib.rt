@@ -6,8 +6,6 @@ mod known;
 mod laws;
 mod player;
 mod rows;
-#[cfg(test)]
-mod tests;
 
 pub use laws::tables_follow_their_rule;
 pub use player::LookupPlayer;

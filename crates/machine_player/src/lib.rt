@@ -4,8 +4,6 @@
 
 mod laws;
 mod player;
-#[cfg(test)]
-mod tests;
 
 pub use laws::machines_follow_their_rule;
 pub use player::MachinePlayer;

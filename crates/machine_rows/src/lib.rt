@@ -9,6 +9,3 @@ mod transition;
 
 pub use machine::MachineRows;
 pub use transition::Transition;
-
-#[cfg(test)]
-mod tests;

@@ -7,8 +7,6 @@ mod line;
 mod long;
 mod long_on_bench;
 mod on_bench;
-#[cfg(test)]
-mod tests;
 mod trail;
 mod turn_by_turn;
 

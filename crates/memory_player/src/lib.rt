@@ -3,8 +3,6 @@
 
 mod laws;
 mod player;
-#[cfg(test)]
-mod tests;
 
 pub use laws::vectors_follow_their_rule;
 pub use player::MemoryPlayer;

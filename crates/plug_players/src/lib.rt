@@ -4,8 +4,6 @@
 mod builtin;
 mod laws;
 mod plug;
-#[cfg(test)]
-mod tests;
 
 pub use builtin::Builtin;
 pub use laws::{builtins_are_sure, builtins_follow_their_rules};

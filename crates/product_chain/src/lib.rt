@@ -14,8 +14,6 @@ mod scores;
 mod side;
 mod slim;
 mod sure;
-#[cfg(test)]
-mod tests;
 mod units;
 mod wide;
 

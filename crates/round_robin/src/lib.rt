@@ -10,8 +10,6 @@ mod pairing;
 mod ranking;
 mod scoring;
 mod tables;
-#[cfg(test)]
-mod tests;
 mod tournament;
 
 pub use contestant::Contestant;

@@ -14,8 +14,3 @@ pub use csv_rows::read_machine_csv;
 pub use draft::{Draft, MachineFile};
 pub use entry::read_sheet;
 pub use file_name::FileName;
-
-#[cfg(test)]
-mod csv_tests;
-#[cfg(test)]
-mod tests;

@@ -1,15 +1,12 @@
-//! Matches between two small players, worked out by hand.
-use crate::grids::tabulate_at;
-use crate::{Tally, play};
-use history_model::{Move, Name, NoMemory};
-use player_core::{Kind, Player, Sheet, Side, no_name};
-use std::alloc::AllocError;
+//! A player apart from the program's.
+use history_model::{Move, Name};
+use player_core::{Kind, Player, Sheet, no_name};
 use std::marker::Model;
 
 /// A player that repeats the other's last move. Row 0 plays C and row 1 plays D, and either may be
 /// its start.
 #[derive(Drop)]
-struct Echo {
+pub(crate) struct Echo {
     start: u32,
     mark: u32,
     turns: u64,
@@ -90,76 +87,12 @@ impl Player for Echo {
     }
 }
 
-#[test]
-fn echoes_take_turns(rt: HostRuntime) -> Result<(), AllocError> {
-    let alloc = rt.alloc();
-    let mut trusting: Box<dyn Player> = Box::new(
-        alloc,
-        Echo {
-            start: 0,
-            mark: 1,
-            turns: 0,
-            returns: 0,
-        },
-    )?;
-    let mut wary: Box<dyn Player> = Box::new(
-        alloc,
-        Echo {
-            start: 1,
-            mark: 0,
-            turns: 0,
-            returns: 0,
-        },
-    )?;
-    // The plays CD, DC, CD.
-    let tally = play(&mut trusting, &mut wary, 3);
-    assert_eq!(rt;
-        tally,
-        Tally {
-            cc: 0,
-            cd: 2,
-            dc: 1,
-            dd: 0
-        }
-    );
-    assert_eq!(rt; trusting.save(), 1);
-    assert_eq!(rt; wary.save(), 0);
-    // The plays CD, DC: both begin at their starts again.
-    let tally = play(&mut trusting, &mut wary, 2);
-    assert_eq!(rt;
-        tally,
-        Tally {
-            cc: 0,
-            cd: 1,
-            dc: 1,
-            dd: 0
-        }
-    );
-    assert_eq!(rt; trusting.advances(), 5);
-    assert_eq!(rt; wary.resumes(), 2);
-    Ok(())
-}
-
-#[test]
-fn wary_echo_is_read(rt: HostRuntime) -> Result<(), NoMemory> {
-    let alloc = rt.alloc();
-    let wary: Box<dyn Player> = Box::new(
-        alloc,
-        Echo {
-            start: 1,
-            mark: 0,
-            turns: 0,
-            returns: 0,
-        },
-    )?;
-    let mut side: Side = Vec::new(alloc);
-    side.push(wary)?;
-    let grid = tabulate_at(alloc, &mut side, 0)?;
-    assert_eq!(rt; grid.den, 1);
-    assert_eq!(rt; grid.start, 1);
-    assert_eq!(rt; grid.rows.len(), 2);
-    assert_eq!(rt; grid.row(0).weight, 1);
-    assert_eq!(rt; grid.row(1).next, [0, 1, 0, 1]);
-    assert_eq!(rt; side[0].advances(), 8);
-    Ok(())
+/// An echo that starts with D, or else with C, and stands at its other row.
+pub(crate) fn starting_with(d: bool) -> Echo {
+    Echo {
+        start: if d { 1 } else { 0 },
+        mark: if d { 0 } else { 1 },
+        turns: 0,
+        returns: 0,
+    }
 }

@@ -1,18 +1,18 @@
 //! Files of a machine against sheets and refusals that were worked out by hand from the rules for such
 //! files.
-use crate::{FileName, MachineFile, read_machine_csv};
+use crate::told::{error_text, sheet_text};
 use history_model::Move;
-use lab_ports::{FileError, FileRole, Refusal};
 use std::alloc::Global;
 use std::fmt::Write;
 use std::test::Fail;
+use strategy_file::{FileName, MachineFile, read_machine_csv};
 
 const HEAD: &str = "state,heard,next,play\n";
 
 // The machine of most cases: it starts in state 7 and opens with D.
 const ROWS: &str = "7,C,9,D\n9,D,7,C\n7,D,7,D\n9,C,9,C\n";
 
-const SHEET: &str = "[0] [0, 0, 1, 1] [1, 0, 1, 0]";
+const SHEET: &str = "Machine 1 0 0 0 - [0] [0, 0, 1, 1] [1, 0, 1, 0]";
 
 // Whole files, and what comes of them.
 const FILES: [(&str, &str); 15] = [
@@ -32,17 +32,26 @@ const FILES: [(&str, &str); 15] = [
         "\u{feff}\"state\",heard,next,\"play\"\n\"7\",\"C\",9,D\n9,D,\"7\",C\n7,D,7,D\n9,C,9,\"C",
         SHEET,
     ),
-    ("", "BadRows 0"),
-    ("\u{feff}\n", "BadRows 0"),
-    ("\r\n\n", "BadRows 0"),
-    ("7,C,9,D\n9,D,7,C\n7,D,7,D\n9,C,9,C\n", "BadRows 0"),
-    ("State,heard,next,play\n7,C,7,C\n7,D,7,D\n", "BadRows 0"),
-    ("state,heard,play,next\n7,C,7,C\n7,D,7,D\n", "BadRows 0"),
-    ("state,heard,next, play\n7,C,7,C\n7,D,7,D\n", "BadRows 0"),
-    ("state,heard,next\n7,C,7,C\n7,D,7,D\n", "BadRows 0"),
-    ("state,heard,next,play,\n7,C,7,C\n7,D,7,D\n", "BadRows 0"),
-    ("state,heard,next,play", "BadRows 1"),
-    ("\"state,heard,next,play\n7,C,7,C\n7,D,7,D\n", "BadRows 0"),
+    ("", "BadRows(3, 0)"),
+    ("\u{feff}\n", "BadRows(3, 0)"),
+    ("\r\n\n", "BadRows(3, 0)"),
+    ("7,C,9,D\n9,D,7,C\n7,D,7,D\n9,C,9,C\n", "BadRows(3, 0)"),
+    ("State,heard,next,play\n7,C,7,C\n7,D,7,D\n", "BadRows(3, 0)"),
+    ("state,heard,play,next\n7,C,7,C\n7,D,7,D\n", "BadRows(3, 0)"),
+    (
+        "state,heard,next, play\n7,C,7,C\n7,D,7,D\n",
+        "BadRows(3, 0)",
+    ),
+    ("state,heard,next\n7,C,7,C\n7,D,7,D\n", "BadRows(3, 0)"),
+    (
+        "state,heard,next,play,\n7,C,7,C\n7,D,7,D\n",
+        "BadRows(3, 0)",
+    ),
+    ("state,heard,next,play", "BadRows(3, 1)"),
+    (
+        "\"state,heard,next,play\n7,C,7,C\n7,D,7,D\n",
+        "BadRows(3, 0)",
+    ),
 ];
 
 // The rows of a file with a right head, and what comes of them.
@@ -53,31 +62,31 @@ const BODIES: [(&str, &str); 28] = [
         "7,C,65535,D\n65535,D,7,C\n7,D,7,D\n65535,C,65535,C\n",
         SHEET,
     ),
-    ("7,C,9,D\n9,D,7,C\n7,D,7,D\n", "BadRows 4"),
-    ("7,C,9,D\n9,D,7,C\n9,C,9,C\n", "BadRows 4"),
-    ("7,C,9,D\n9,D,7,C\n7,C,9,D\n", "BadRows 3"),
-    ("7,C,9,D\n9,D,7,C\n7,D,7,D\n9,C,9,\"C\n", "BadRows 4"),
-    ("9,C,9,C\n9,D,9,C\n", "BadRows 3"),
-    ("7,C,9\n", "BadRows 1"),
-    ("7,C,7,C\n7,D,7,D,\n", "BadRows 2"),
-    (" \n", "BadRows 1"),
-    ("# 7\n", "BadRows 1"),
-    ("7,C,7,C\n07,D,7,D\n", "BadRows 2"),
-    ("7,C,00,C\n", "BadRows 1"),
-    ("+7,C,7,C\n", "BadRows 1"),
-    ("7,C,-7,C\n", "BadRows 1"),
-    (" 7,C,7,C\n", "BadRows 1"),
-    ("7,C,7.0,C\n", "BadRows 1"),
-    ("7,C,,C\n", "BadRows 1"),
-    ("7,C,65536,C\n", "BadRows 1"),
-    ("7,C,4294967303,C\n", "BadRows 1"),
-    ("7,C,18446744073709551623,C\n", "BadRows 1"),
-    ("7,c,7,C\n", "BadRows 1"),
-    ("7,C,7,d\n", "BadRows 1"),
-    ("7,C,7,CC\n", "BadRows 1"),
-    ("7,,7,C\n", "BadRows 1"),
-    ("7,C,7,\"C\"\"\"\n", "BadRows 1"),
-    ("\"7\n\",C,7,C\n", "BadRows 1"),
+    ("7,C,9,D\n9,D,7,C\n7,D,7,D\n", "BadRows(3, 4)"),
+    ("7,C,9,D\n9,D,7,C\n9,C,9,C\n", "BadRows(3, 4)"),
+    ("7,C,9,D\n9,D,7,C\n7,C,9,D\n", "BadRows(3, 3)"),
+    ("7,C,9,D\n9,D,7,C\n7,D,7,D\n9,C,9,\"C\n", "BadRows(3, 4)"),
+    ("9,C,9,C\n9,D,9,C\n", "BadRows(3, 3)"),
+    ("7,C,9\n", "BadRows(3, 1)"),
+    ("7,C,7,C\n7,D,7,D,\n", "BadRows(3, 2)"),
+    (" \n", "BadRows(3, 1)"),
+    ("# 7\n", "BadRows(3, 1)"),
+    ("7,C,7,C\n07,D,7,D\n", "BadRows(3, 2)"),
+    ("7,C,00,C\n", "BadRows(3, 1)"),
+    ("+7,C,7,C\n", "BadRows(3, 1)"),
+    ("7,C,-7,C\n", "BadRows(3, 1)"),
+    (" 7,C,7,C\n", "BadRows(3, 1)"),
+    ("7,C,7.0,C\n", "BadRows(3, 1)"),
+    ("7,C,,C\n", "BadRows(3, 1)"),
+    ("7,C,65536,C\n", "BadRows(3, 1)"),
+    ("7,C,4294967303,C\n", "BadRows(3, 1)"),
+    ("7,C,18446744073709551623,C\n", "BadRows(3, 1)"),
+    ("7,c,7,C\n", "BadRows(3, 1)"),
+    ("7,C,7,d\n", "BadRows(3, 1)"),
+    ("7,C,7,CC\n", "BadRows(3, 1)"),
+    ("7,,7,C\n", "BadRows(3, 1)"),
+    ("7,C,7,\"C\"\"\"\n", "BadRows(3, 1)"),
+    ("\"7\n\",C,7,C\n", "BadRows(3, 1)"),
 ];
 
 // What the file of the third entry's machine is, as a line.
@@ -89,22 +98,8 @@ fn answer(alloc: Global, bytes: &[u8]) -> Result<String, Fail> {
         opening: Move::D,
     };
     match read_machine_csv(alloc, bytes, 3, &machine) {
-        Ok(sheet) => Ok(format!(in alloc;
-            "{:?} {:?} {:?}",
-            sheet.opening, sheet.table, sheet.next
-        )?),
-        Err(FileError::Refused(Refusal::BadRows(3, row))) => Ok(format!(in alloc;
-            "BadRows {row}"
-        )?),
-        Err(FileError::Refused(Refusal::TooManyRows(3))) => Ok(String::from_str(
-            alloc,
-            "TooManyRows",
-        )?),
-        Err(FileError::Refused(Refusal::TooLong(FileRole::Machine(3)))) => {
-            Ok(String::from_str(alloc, "TooLong")?)
-        }
-        Err(FileError::Refused(_)) => Ok(String::from_str(alloc, "another")?),
-        Err(FileError::NoMemory) => Ok(String::from_str(alloc, "no memory")?),
+        Ok(sheet) => sheet_text(alloc, &sheet),
+        Err(error) => error_text(alloc, &error),
     }
 }
 
@@ -120,7 +115,7 @@ fn reads_machine_files(rt: HostRuntime) -> Result<(), Fail> {
         assert_eq!(rt; found.as_str(), want, "at {rows}");
     }
     let no_text = answer(rt.alloc(), &[0xFF, 0xFE])?;
-    assert_eq!(rt; no_text.as_str(), "BadRows 0");
+    assert_eq!(rt; no_text.as_str(), "BadRows(3, 0)");
     Ok(())
 }
 
@@ -142,12 +137,12 @@ fn limits_machine_files(rt: HostRuntime) -> Result<(), Fail> {
         file.push('\n')?;
     }
     let most = answer(rt.alloc(), file.as_bytes())?;
-    assert!(rt; most.starts_with("[0] [1, 0, 1, 0, "));
+    assert!(rt; most.starts_with("Machine 1 0 0 0 - [0] [1, 0, 1, 0, "));
     assert!(rt; most.ends_with(" 254, 253, 255, 254, 0, 255]"));
     file.push('\n')?;
     let longer = answer(rt.alloc(), file.as_bytes())?;
-    assert_eq!(rt; longer.as_str(), "TooLong");
+    assert_eq!(rt; longer.as_str(), "TooLong(Machine(3))");
     let more = answer(rt.alloc(), ring(rt.alloc(), 257)?.as_bytes())?;
-    assert_eq!(rt; more.as_str(), "TooManyRows");
+    assert_eq!(rt; more.as_str(), "TooManyRows(3)");
     Ok(())
 }

@@ -1,6 +1,6 @@
-//! Worked texts.
-use crate::{Chance, Score, cut, first_line, number_of, small, value_of};
+//! Numbers, cut texts, and points as texts.
 use std::test::Fail;
+use texts::{Chance, Score, cut, first_line, number_of, small, value_of};
 
 #[test]
 fn reads_numbers(rt: HostRuntime) {

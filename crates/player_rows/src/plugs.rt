@@ -1,7 +1,7 @@
 //! What the built-ins are called, and what they play in matches worked out by hand.
-use crate::{Builtin, PlugPlayer};
 use history_model::Move;
 use player_core::Player;
+use plug_players::{Builtin, PlugPlayer};
 
 fn chosen(player: &PlugPlayer) -> Move {
     if player.weight() == player.den() {

@@ -1,6 +1,5 @@
-//! What no clause says: that the ports can succeed, and that the words and numbers are the agreed
-//! ones.
-use crate::{
+//! Ports: that they can succeed, and that the words and numbers are the agreed ones.
+use lab_ports::{
     FileRole, FolderLibrary, KeyName, Library, LibraryError, MemoryFile, MemoryLibrary, MemorySink,
     Piece, Place, Refusal, RowCause, SinkFailed, StreamSink, TableName, send, send_pieces,
     tell_refusal,

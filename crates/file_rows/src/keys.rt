@@ -1,5 +1,5 @@
 //! Keys of one table against values worked out by hand.
-use crate::{
+use lab_keys::{
     array_at, optional_pairs_at, optional_table_at, pair_of, table_at, text_at, truth_at, whole_at,
     wholes_at,
 };

@@ -1,9 +1,9 @@
 //! Labs against answers that were worked out by hand from what a lab is. A case changes parts of one
 //! lab: `part -> what stands in its place`, and maybe ` and ` a further part, ` => ` the answer. In
 //! the parts `; ` is a line break, and `?` the table of a tournament behind that of the match.
-use crate::{Command, Entry, Lab, TournamentJob, read_lab};
+use crate::told::error_text;
 use history_model::Name;
-use lab_ports::{FileError, Refusal};
+use lab_file::{Command, Entry, Lab, TournamentJob, read_lab};
 use player_core::PlugNote;
 use std::alloc::Global;
 use std::fmt::Write;
@@ -226,14 +226,9 @@ fn answer(alloc: Global, bytes: &[u8]) -> Result<String, Fail> {
                 write_tournament(alloc, &mut text, job)?;
             }
         }
-        Err(FileError::Refused(refusal)) => write!(text, "{refusal:?}")?,
-        Err(FileError::NoMemory) => text.push_str("NoMemory")?,
+        Err(error) => return error_text(alloc, &error),
     }
-    let mut told = String::from_str(alloc, text.as_str())?;
-    for word in ["(Place { table:", ", entry:", ", key:", " })"] {
-        told = told.replace(alloc, word, "")?;
-    }
-    Ok(told)
+    Ok(text)
 }
 
 // The lab with parts of it changed.

@@ -1,32 +1,13 @@
-//! Worked vectors: no clause says that the definitions mean what they should.
+//! Vectors.
 ghost use Rattle.std.specs.Prelude.{◌≡◌, ◌≤◌};
 ghost use Rattle.player_core.specs.Sheet.{AreWithin};
 
-use crate::MemoryPlayer;
-use history_model::{Move, Play};
+use crate::plays::{CC, CD, DC, DD, shown_after};
+use history_model::Play;
+use memory_player::MemoryPlayer;
 use player_core::{Kind, Player, Sheet, no_name};
 use std::alloc::{AllocError, Global};
 use std::test::Fail;
-
-const CC: Play = Play {
-    mine: Move::C,
-    theirs: Move::C,
-};
-
-const CD: Play = Play {
-    mine: Move::C,
-    theirs: Move::D,
-};
-
-const DC: Play = Play {
-    mine: Move::D,
-    theirs: Move::C,
-};
-
-const DD: Play = Play {
-    mine: Move::D,
-    theirs: Move::D,
-};
 
 fn vector(alloc: Global, den: u32, opening: u32, table: [u32; 4]) -> Result<Sheet, AllocError>
     requires some { 1 ≤ den }
@@ -47,18 +28,6 @@ fn vector(alloc: Global, den: u32, opening: u32, table: [u32; 4]) -> Result<Shee
     })
 }
 
-// The weight of C after the plays, and what it is over; none where the player takes no such sheet.
-fn weight_after<P: Player>(player: &mut P, sheet: &Sheet, plays: &[Play]) -> Option<(u32, u32)> {
-    if !player.takes(sheet) {
-        return None;
-    }
-    player.load(sheet);
-    for play in plays {
-        player.advance(play.mine, play.theirs);
-    }
-    Some((player.weight(), player.den()))
-}
-
 #[test]
 fn plays_vectors(rt: HostRuntime) -> Result<(), Fail> {
     let alloc = rt.alloc();
@@ -77,14 +46,14 @@ fn plays_vectors(rt: HostRuntime) -> Result<(), Fail> {
     ];
     for (plays, sure, weight) in cases {
         assert_eq!(rt;
-            weight_after(&mut player, &tit_for_tat, plays),
-            Some((sure, 1))
+            shown_after(&mut player, &tit_for_tat, plays),
+            Some((sure, 1, 5))
         );
         assert_eq!(rt;
-            weight_after(&mut player, &mixed, plays),
-            Some((weight, 10))
+            shown_after(&mut player, &mixed, plays),
+            Some((weight, 10, 5))
         );
-        assert_eq!(rt; weight_after(&mut player, &even, plays), Some((1, 3)));
+        assert_eq!(rt; shown_after(&mut player, &even, plays), Some((1, 3, 5)));
     }
     Ok(())
 }

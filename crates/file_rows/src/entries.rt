@@ -1,20 +1,19 @@
 //! Entries of a lab file against drafts and refusals that were worked out by hand from the rules for
 //! entries. Each case is the answer in one line and below it the entry that has it.
-use crate::{Draft, MachineFile, read_sheet};
-use history_model::{Move, Name};
-use lab_ports::{FileError, Place, Refusal, TableName};
-use player_core::{PlugNote, Sheet};
+use crate::told::{error_text, sheet_text};
+use history_model::Name;
+use player_core::PlugNote;
 use std::alloc::Global;
-use std::fmt::Write;
 use std::test::Fail;
+use strategy_file::{Draft, MachineFile, read_sheet};
 
-const CASES: &str = r#"MissingKey Kind
+const CASES: &str = r#"MissingKey Entry 3 Kind
 den = 1
 
-WrongType Kind
+WrongType Entry 3 Kind
 kind = 1
 
-UnknownKind
+UnknownKind(3)
 kind = "Memory-One"
 
 MemoryOne 4 0 0 0 - [3] [0, 1, 2, 4] []
@@ -29,79 +28,79 @@ den = 1000
 opening = 1000
 weights = [0, 1000, 0, 0]
 
-MissingKey Den
+MissingKey Entry 3 Den
 kind = "memory-one"
 opening = 5
 
-WrongType Den
+WrongType Entry 3 Den
 kind = "memory-one"
 den = 1.0
 
-OutOfRange Den
+OutOfRange Entry 3 Den
 kind = "memory-one"
 den = 0
 opening = "C"
 
-OutOfRange Den
+OutOfRange Entry 3 Den
 kind = "memory-one"
 den = 1001
 
-MissingKey Opening
+MissingKey Entry 3 Opening
 kind = "memory-one"
 den = 4
 weights = 1
 
-WrongType Opening
+WrongType Entry 3 Opening
 kind = "memory-one"
 den = 4
 opening = "C"
 
-OutOfRange Opening
+OutOfRange Entry 3 Opening
 kind = "memory-one"
 den = 4
 opening = 5
 
-OutOfRange Opening
+OutOfRange Entry 3 Opening
 kind = "memory-one"
 den = 4
 opening = -1
 
-MissingKey Weights
+MissingKey Entry 3 Weights
 kind = "memory-one"
 den = 4
 opening = 0
 
-WrongType Weights
+WrongType Entry 3 Weights
 kind = "memory-one"
 den = 4
 opening = 0
 weights = 1
 
-WrongType Weights
+WrongType Entry 3 Weights
 kind = "memory-one"
 den = 4
 opening = 0
 weights = [9, 9, true]
 
-OutOfRange Weights
+OutOfRange Entry 3 Weights
 kind = "memory-one"
 den = 4
 opening = 0
 weights = [0, 1, 2]
 
-OutOfRange Weights
+OutOfRange Entry 3 Weights
 kind = "memory-one"
 den = 4
 opening = 0
 weights = [0, 1, 2, 3, 4]
 
-OutOfRange Weights
+OutOfRange Entry 3 Weights
 kind = "memory-one"
 den = 4
 opening = 0
 weights = [0, 1, 2, 5]
 
-OutOfRange Weights
+OutOfRange Entry 3 Weights
 kind = "memory-one"
 den = 4
 opening = 0
@@ -119,72 +118,72 @@ start = 9
 opening = "D"
 rows = [[7, "D", 9, "D"], [7, "C", 65535, "C"], [9, "D", 9, "C"], [65535, "C", 65535, "C"], [65535, "D", 7, "C"], [9, "C", 7, "D"]]
 
-MissingKey Start
+MissingKey Entry 3 Start
 kind = "machine"
 opening = 1
 
-WrongType Start
+WrongType Entry 3 Start
 kind = "machine"
 start = "0"
 
-OutOfRange Start
+OutOfRange Entry 3 Start
 kind = "machine"
 start = 65536
 
-MissingKey Opening
+MissingKey Entry 3 Opening
 kind = "machine"
 start = 65535
 rows = []
 
-WrongType Opening
+WrongType Entry 3 Opening
 kind = "machine"
 start = 0
 opening = 1
 rows = []
 
-OutOfRange Opening
+OutOfRange Entry 3 Opening
 kind = "machine"
 start = 0
 opening = "c"
 rows = []
 
-MissingKey Rows
+MissingKey Entry 3 Rows
 kind = "machine"
 start = 0
 opening = "C"
 
-OutOfRange File
+OutOfRange Entry 3 File
 kind = "machine"
 start = 0
 opening = "C"
 rows = "none"
 file = 1
 
-WrongType Rows
+WrongType Entry 3 Rows
 kind = "machine"
 start = 0
 opening = "C"
 rows = { a = 1 }
 
-WrongType File
+WrongType Entry 3 File
 kind = "machine"
 start = 0
 opening = "C"
 file = 1979-05-27
 
-BadName
+BadName(3)
 kind = "machine"
 start = 0
 opening = "C"
 file = ""
 
-BadName
+BadName(3)
 kind = "machine"
 start = 0
 opening = "C"
 file = "-rows.csv"
 
-BadName
+BadName(3)
 kind = "machine"
 start = 0
 opening = "C"
@@ -196,55 +195,55 @@ start = 65535
 opening = "D"
 file = "my rows.csv"
 
-BadRows 1
+BadRows(3, 1)
 kind = "machine"
 start = 0
 opening = "C"
 rows = []
 
-BadRows 1
+BadRows(3, 1)
 kind = "machine"
 start = 0
 opening = "C"
 rows = [0, "C", 0, "C"]
 
-BadRows 2
+BadRows(3, 2)
 kind = "machine"
 start = 0
 opening = "C"
 rows = [[0, "C", 0, "C"]]
 
-BadRows 2
+BadRows(3, 2)
 kind = "machine"
 start = 0
 opening = "C"
 rows = [[0, "C", 0, "C"], [0, "C", 1, "D"]]
 
-BadRows 2
+BadRows(3, 2)
 kind = "machine"
 start = 0
 opening = "C"
 rows = [[0, "C", 0, "C"], [0, "D", 65536, "D"]]
 
-BadRows 3
+BadRows(3, 3)
 kind = "machine"
 start = 0
 opening = "C"
 rows = [[0, "C", 0, "C"], [0, "D", 0, "D"], [0, "C", 0, "D"]]
 
-BadRows 3
+BadRows(3, 3)
 kind = "machine"
 start = 0
 opening = "C"
 rows = [[0, "C", 0, "C"], [0, "D", 1, "D"]]
 
-BadRows 1
+BadRows(3, 1)
 kind = "machine"
 start = 0
 opening = "C"
 rows = [[0, "C", 0, "C", 0]]
 
-BadRows 1
+BadRows(3, 1)
 kind = "machine"
 start = 0
 opening = "C"
@@ -277,42 +276,42 @@ first = 2
 opening = [7, 8]
 table = [1, 2, 3, 4, 5, 6, 7, 9]
 
-OutOfRange Den
+OutOfRange Entry 3 Den
 kind = "lookup"
 den = 1001
 
-OutOfRange Own
+OutOfRange Entry 3 Own
 kind = "lookup"
 den = 1
 own = 5
 
-WrongType Other
+WrongType Entry 3 Other
 kind = "lookup"
 den = 1
 own = 4
 other = []
 
-MissingKey First
+MissingKey Entry 3 First
 kind = "lookup"
 den = 1
 own = 4
 other = 4
 
-OutOfRange First
+OutOfRange Entry 3 First
 kind = "lookup"
 den = 1
 own = 4
 other = 4
 first = 1
 
-MissingKey Opening
+MissingKey Entry 3 Opening
 kind = "lookup"
 den = 1
 own = 4
 other = 4
 first = 0
 
-OutOfRange Opening
+OutOfRange Entry 3 Opening
 kind = "lookup"
 den = 1
 own = 1
@@ -321,7 +320,7 @@ first = 1
 opening = [1]
 table = []
 
-OutOfRange Table
+OutOfRange Entry 3 Table
 kind = "lookup"
 den = 1
 own = 1
@@ -330,7 +329,7 @@ first = 0
 opening = [1]
 table = [1, 1]
 
-OutOfRange Table
+OutOfRange Entry 3 Table
 kind = "lookup"
 den = 1
 own = 1
@@ -343,63 +342,26 @@ Plug 1 0 0 0 Tit For Tat [] [] []
 kind = "plug"
 plug = "Tit For Tat"
 
-MissingKey Plug
+MissingKey Entry 3 Plug
 kind = "plug"
 den = 1
 
-WrongType Plug
+WrongType Entry 3 Plug
 kind = "plug"
 plug = true
 
-UnknownPlug
+UnknownPlug(3)
 kind = "plug"
 plug = "tit for tat"
 
-UnknownPlug
+UnknownPlug(3)
 kind = "plug"
 plug = "|"
 "#;
 
-fn sheet_text(alloc: Global, sheet: &Sheet) -> Result<String, Fail> {
-    let mut text = String::new(alloc);
-    write!(
-        text,
-        "{:?} {} {} {} {} ",
-        sheet.kind, sheet.den, sheet.own, sheet.other, sheet.first
-    )?;
-    write!(
-        text,
-        "{} {:?} {:?} {:?}",
-        sheet.plug, sheet.opening, sheet.table, sheet.next
-    )?;
-    Ok(text)
-}
-
 fn file_text(alloc: Global, machine: &MachineFile) -> Result<String, Fail> {
     let file = machine.file.text();
     Ok(format!(in alloc; "file {file} {} {:?}", machine.start, machine.opening)?)
-}
-
-// A key of the third entry, or one of another place.
-fn place_text(alloc: Global, variant: &str, place: Place) -> Result<String, Fail> {
-    if place.table == TableName::Entry && place.entry == 3 {
-        return Ok(format!(in alloc; "{variant} {:?}", place.key)?);
-    }
-    Ok(format!(in alloc; "elsewhere")?)
-}
-
-fn refusal_text(alloc: Global, refusal: Refusal) -> Result<String, Fail> {
-    match refusal {
-        Refusal::MissingKey(place) => place_text(alloc, "MissingKey", place),
-        Refusal::WrongType(place) => place_text(alloc, "WrongType", place),
-        Refusal::OutOfRange(place) => place_text(alloc, "OutOfRange", place),
-        Refusal::BadRows(3, row) => Ok(format!(in alloc; "BadRows {row}")?),
-        Refusal::BadName(3) => Ok(String::from_str(alloc, "BadName")?),
-        Refusal::UnknownKind(3) => Ok(String::from_str(alloc, "UnknownKind")?),
-        Refusal::UnknownPlug(3) => Ok(String::from_str(alloc, "UnknownPlug")?),
-        Refusal::TooManyRows(3) => Ok(String::from_str(alloc, "TooManyRows")?),
-        _ => Ok(String::from_str(alloc, "another")?),
-    }
 }
 
 // What the third entry of a lab is, as a line.
@@ -418,8 +380,7 @@ fn answer(alloc: Global, entry: &str) -> Result<String, Fail> {
     match read_sheet(alloc, &table, 3, &notes) {
         Ok(Draft::Ready(sheet)) => sheet_text(alloc, &sheet),
         Ok(Draft::FromFile(machine)) => file_text(alloc, &machine),
-        Err(FileError::Refused(refusal)) => refusal_text(alloc, refusal),
-        Err(FileError::NoMemory) => Ok(String::from_str(alloc, "no memory")?),
+        Err(error) => error_text(alloc, &error),
     }
 }
 

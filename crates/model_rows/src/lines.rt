@@ -1,5 +1,5 @@
-//! Lines against texts that were worked out by hand.
-use crate::{line_of, push_line};
+//! Lines of reports against texts that were worked out by hand.
+use report_lines::{line_of, push_line};
 use std::test::Fail;
 
 #[test]

@@ -1,6 +1,5 @@
-//! Machines against draws that were worked out apart from this crate, by a program of a few lines.
-use crate::draws::Draws;
-use crate::{drill_name, drill_sheets};
+//! Drilled machines against draws that were worked out apart from these crates, by a program of a few lines.
+use drill::{drill_name, drill_sheets};
 use player_core::Sheet;
 use std::alloc::Global;
 use std::fmt::Write;
@@ -86,15 +85,6 @@ fn draws_machines(rt: HostRuntime) -> Result<(), Fail> {
         assert_eq!(rt; found.as_str(), want, "at {number} and {place}");
     }
     Ok(())
-}
-
-// The least number steps to the increment of the generator, whose top bit is 0.
-#[test]
-fn draws_from_none(rt: HostRuntime) {
-    let mut draws = Draws { state: 0 };
-    assert_eq!(rt; draws.draw(), 1442695040888963407);
-    let mut draws = Draws { state: 0 };
-    assert_eq!(rt; draws.draw_move(), 1);
 }
 
 #[test]

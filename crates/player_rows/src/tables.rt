@@ -1,33 +1,13 @@
-//! Worked tables, and tables against the history itself: no clause says that the definitions mean
-//! what they should.
+//! Tables, and tables against the history itself.
 ghost use Rattle.std.specs.Prelude.{◌≡◌, ◌≤◌, ◌+◌, ◌^◌, IfOk, length, max, slice_index};
 ghost use Rattle.player_core.specs.Sheet.{AreWithin};
 
-use crate::LookupPlayer;
+use crate::plays::{CC, CD, DC, DD, shown_after};
 use history_model::{Move, Play};
+use lookup_player::LookupPlayer;
 use player_core::{Kind, Player, Sheet, no_name};
 use std::alloc::{AllocError, Global};
 use std::test::Fail;
-
-const CC: Play = Play {
-    mine: Move::C,
-    theirs: Move::C,
-};
-
-const CD: Play = Play {
-    mine: Move::C,
-    theirs: Move::D,
-};
-
-const DC: Play = Play {
-    mine: Move::D,
-    theirs: Move::C,
-};
-
-const DD: Play = Play {
-    mine: Move::D,
-    theirs: Move::D,
-};
 
 // How many histories of up to 6 plays there are.
 const HISTORIES: u32 = 5461;
@@ -58,18 +38,6 @@ fn table(alloc: Global, den: u32, looks: [u32; 3], opening: Vec<u32>, table: Vec
     }
 }
 
-// The weight of C after the plays, and the number of rows; none where the player takes no such sheet.
-fn weight_after<P: Player>(player: &mut P, sheet: &Sheet, plays: &[Play]) -> Option<(u32, u32)> {
-    if !player.takes(sheet) {
-        return None;
-    }
-    player.load(sheet);
-    for play in plays {
-        player.advance(play.mine, play.theirs);
-    }
-    Some((player.weight(), player.rows()))
-}
-
 #[test]
 fn plays_tables(rt: HostRuntime) -> Result<(), Fail> {
     let alloc = rt.alloc();
@@ -95,10 +63,10 @@ fn plays_tables(rt: HostRuntime) -> Result<(), Fail> {
         (&[CC, CD, DC], 1),
     ];
     for (plays, weight) in cases {
-        assert_eq!(rt; weight_after(&mut player, &defector, plays), Some((0, 1)));
+        assert_eq!(rt; shown_after(&mut player, &defector, plays), Some((0, 1, 1)));
         assert_eq!(rt;
-            weight_after(&mut player, &after_c_d, plays),
-            Some((weight, 7))
+            shown_after(&mut player, &after_c_d, plays),
+            Some((weight, 1, 7))
         );
     }
     Ok(())
@@ -192,7 +160,7 @@ fn agreements<P: Player>(
     for number in 0..HISTORIES {
         let plays = history(alloc, number)?;
         let weight = expected(sheet, &plays);
-        if weight_after(player, sheet, &plays) == weight.map(|weight| (weight, rows)) {
+        if shown_after(player, sheet, &plays) == weight.map(|weight| (weight, 1000, rows)) {
             agreements = agreements.wrapping_add(1);
         }
     }

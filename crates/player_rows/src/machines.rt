@@ -1,32 +1,13 @@
-//! Worked machines: no clause says that the definitions mean what they should.
+//! Machines.
 ghost use Rattle.std.specs.Prelude.{◌≡◌, ℕ, ◌≤◌, ◌<◌, ◌*◌, ◌/◌, length, slice_index};
 ghost use Rattle.player_core.specs.Sheet.{AreWithin};
 
-use crate::MachinePlayer;
-use history_model::{Move, Play};
+use crate::plays::{CC, CD, DC, DD, shown_after};
+use history_model::Play;
+use machine_player::MachinePlayer;
 use player_core::{Kind, Player, Sheet, no_name};
 use std::alloc::{AllocError, Global};
 use std::test::Fail;
-
-const CC: Play = Play {
-    mine: Move::C,
-    theirs: Move::C,
-};
-
-const CD: Play = Play {
-    mine: Move::C,
-    theirs: Move::D,
-};
-
-const DC: Play = Play {
-    mine: Move::D,
-    theirs: Move::C,
-};
-
-const DD: Play = Play {
-    mine: Move::D,
-    theirs: Move::D,
-};
 
 fn machine(alloc: Global, opening: u32, table: &[u32], next: &[u32]) -> Result<Sheet, AllocError>
     requires opening { opening ≤ 1 }
@@ -50,18 +31,6 @@ fn machine(alloc: Global, opening: u32, table: &[u32], next: &[u32]) -> Result<S
     })
 }
 
-// The weight of C after the plays, and the number of rows; none where the player takes no such sheet.
-fn weight_after<P: Player>(player: &mut P, sheet: &Sheet, plays: &[Play]) -> Option<(u32, u32)> {
-    if !player.takes(sheet) {
-        return None;
-    }
-    player.load(sheet);
-    for play in plays {
-        player.advance(play.mine, play.theirs);
-    }
-    Some((player.weight(), player.rows()))
-}
-
 #[test]
 fn plays_machines(rt: HostRuntime) -> Result<(), Fail> {
     let alloc = rt.alloc();
@@ -83,14 +52,17 @@ fn plays_machines(rt: HostRuntime) -> Result<(), Fail> {
     ];
     for (plays, one, other, two) in cases {
         assert_eq!(rt;
-            weight_after(&mut player, &tit_for_tat, plays),
-            Some((one, 2))
+            shown_after(&mut player, &tit_for_tat, plays),
+            Some((one, 1, 2))
         );
         assert_eq!(rt;
-            weight_after(&mut player, &opposite, plays),
-            Some((other, 2))
+            shown_after(&mut player, &opposite, plays),
+            Some((other, 1, 2))
         );
-        assert_eq!(rt; weight_after(&mut player, &two_tats, plays), Some((two, 4)));
+        assert_eq!(rt;
+            shown_after(&mut player, &two_tats, plays),
+            Some((two, 1, 4))
+        );
     }
     Ok(())
 }

@@ -1,5 +1,5 @@
-//! Worked spans.
-use crate::{Span, Verdict, compare, mix, push_span, read_span, span_text};
+//! Spans: as texts, mixed, and compared.
+use fixed_span::{Span, Verdict, compare, mix, push_span, read_span, span_text};
 use std::test::Fail;
 
 const MOST: i128 = 10_000_000_000_000_000_000_000_000_000_000_000_000;
