@@ -145,7 +145,7 @@ entry_fits_is names table x h =
     record { few = ltb_is (length table.entries) 64 b.0; unlisted = b.1; counted = a.1 }
 
 entry_is_named : (x : ShownEntry) → is_entry x ≡ true → IsName x.name
-entry_is_named x h = (both_true _ _ (both_true _ _ h).0).0
+entry_is_named x h = (both_true _ _ h).0
 
 place_inside : (names : List (List ℕ)) (name : List ℕ) → place_in names name < length (with_name names name)
 place_inside names name = omega (arith, place_kept names name, place_below names name)

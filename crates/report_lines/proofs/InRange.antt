@@ -9,12 +9,10 @@ use Rattle.history_model.specs.Game.{Payoffs}
 use Rattle.history_model.specs.Name.{is_name}
 use Rattle.history_model.specs.Noise.{FlipRate}
 use Rattle.history_model.specs.Tally.{total}
-use Rattle.fixed_span.specs.Span.{Ends, point}
+use Rattle.fixed_span.specs.Span.{Ends}
 use Rattle.fixed_span.specs.Texts.{IsShown}
 use Rattle.report_lines.specs.declared.line.ShownMatch.{ShownMatch}
-use Rattle.report_lines.specs.declared.line.ShownEntry.{ShownEntry}
-use Rattle.report_lines.specs.declared.line.ShownFirst.{ShownFirst}
-use Rattle.report_lines.specs.Texts.{is_payoff, are_payoffs, is_noise, is_turns, is_score, counts_are, is_match, is_total, is_count, is_rank, is_entry, is_number, are_points, is_first}
+use Rattle.report_lines.specs.Texts.{is_payoff, are_payoffs, is_noise, is_turns, is_score, counts_are, is_match, is_total, is_count, is_number}
 
 pub both_true : (a b : Bool) → (a && b) ≡ true → (a ≡ true) × (b ≡ true)
 both_true true b h = (refl, h)
@@ -98,29 +96,5 @@ match_parts m h =
 pub count_few : (n : ℕ) → is_count n ≡ true → n < 2 ^ 32
 count_few n h = grind (arith, nat_tests)
 
-pub record EntryParts (x : ShownEntry) : Type 0 where
-  pub name : is_name x.name ≡ true
-  pub total : IsShown x.total
-  pub rank : is_rank x.rank ≡ true
-  pub wins : is_count x.wins ≡ true
-  pub undecided : is_count x.undecided ≡ true
-
-pub entry_parts : (x : ShownEntry) → is_entry x ≡ true → EntryParts x
-entry_parts x h =
-    let a = both_true (is_name x.name && is_total x.total) (is_rank x.rank && (is_count x.wins && is_count x.undecided)) h in
-    let n = both_true (is_name x.name) (is_total x.total) a.0 in
-    let b = both_true (is_rank x.rank) (is_count x.wins && is_count x.undecided) a.1 in
-    let c = both_true (is_count x.wins) (is_count x.undecided) b.1 in
-    record { name = n.0; total = total_shown x.total n.1; rank = b.0; wins = c.0; undecided = c.1 }
-
 pub number_few : (n : ℕ) → is_number n ≡ true → n < 2 ^ 64
 number_few n h = grind (arith, nat_tests)
-
-pub record FirstParts (x : ShownFirst) : Type 0 where
-  pub name : is_name x.name ≡ true
-  pub total : IsShown (point x.total)
-
-pub first_parts : (x : ShownFirst) → is_first x ≡ true → FirstParts x
-first_parts x h =
-    let a = both_true (is_name x.name) (are_points x.total) h in
-    record { name = a.0; total = total_shown (point x.total) a.1 }

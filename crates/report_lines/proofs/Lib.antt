@@ -1,2 +1,5 @@
 pub mod InRange
+pub mod FieldLaws
+pub mod EntryLaws
+pub mod FirstLaws
 pub mod LineLaws

@@ -1,96 +1,29 @@
 -- A line is read exactly from its text.
-use Rattle.std.proofs.Common.{◌≡◌, ℕ, ◌+◌, ◌*◌, ◌^◌, ◌<◌, ◌≤◌, Bool, true, false, cond, eqb, ◌&&◌, List, [], ◌∷◌, ◌++◌, ℤ, Option, Some, None, refl, sym, ap, subst, ◌∙◌, append_assoc, arith, inl, inr, ◌⊎◌}
+use Rattle.std.proofs.Common.{◌≡◌, ℕ, ◌+◌, ◌^◌, ◌≤◌, Bool, true, false, cond, ◌&&◌, List, ◌∷◌, ◌++◌, ℤ, Option, Some, None, refl, sym, ap, subst, ◌∙◌, append_assoc, arith, inl, inr}
 use Rattle.std.specs.Prelude.{codes}
 use Rattle.std.specs.Fmt.{decimal}
-use Rattle.std.specs.List.{list_all}
 use Rattle.std.specs.Str.{bytes_eq}
-use Rattle.std.proofs.lemmas.Bool.Decides.{nat_tests}
 use Rattle.std.proofs.lemmas.Slice.Eq.{bytes_eq-Decides}
 use Rattle.history_model.specs.declared.tally.Tally.{Tally}
 use Rattle.history_model.specs.Game.{Payoffs}
-use Rattle.history_model.specs.Name.{is_name, is_name_byte}
 use Rattle.history_model.specs.Noise.{FlipRate}
-use Rattle.texts.specs.Cuts.{lacks, CutsAreExact}
-use Rattle.texts.specs.Numbers.{◌>>=◌, small, IsNoDigit, NumbersAreExact}
-use Rattle.fixed_span.specs.Span.{Ends, point}
-use Rattle.fixed_span.specs.Texts.{IsShown, SpansAreExact}
+use Rattle.texts.specs.Cuts.{lacks}
+use Rattle.texts.specs.Numbers.{◌>>=◌, small}
+use Rattle.fixed_span.specs.Span.{point}
 use Rattle.fixed_span.specs.Verdict.{verdict}
 use Rattle.fixed_span.specs.declared.ordering.Verdict.{Verdict}
 use Rattle.fixed_span.specs.declared.ordering.Verdict.TheVariants as verdicts
 use Rattle.report_lines.specs.declared.line.Kind.TheVariants as kinds
 use Rattle.report_lines.specs.declared.line.ShownMatch.{ShownMatch}
-use Rattle.report_lines.specs.declared.line.ShownEntry.{ShownEntry}
 use Rattle.report_lines.specs.declared.line.ShownFirst.{ShownFirst}
 use Rattle.report_lines.specs.declared.line.Line.{Line}
 use Rattle.report_lines.specs.declared.line.Line.TheVariants as lines
-use Rattle.report_lines.specs.Texts.{dilemma_word, is_dilemma, game_text, noise_text, players_text, score_text, winner_word, scores_text, counts_text, match_text, entry_front, rank_text, entry_counts, entry_text, line_text, is_payoff, are_payoffs, is_noise, is_score, counts_are, is_match, is_count, is_rank, is_entry, is_line, drill_text, points_text, first_text, total_text, is_number, are_points, is_first}
-use Rattle.report_lines.specs.Reading.{rest, name_of, score_of, kind_of, payoff_of, game_of, noise_of, tally_of, counts_of, scores_of, match_of, count_of, rank_of, entry_of, points_of, first_of, drill_line, guess, if_text, line_of, LinesAreExact}
-use Rattle.report_lines.proofs.InRange.{both_true, game_parts, payoff_few, noise_few, score_shown, CountsFew, counts_few, MatchParts, match_parts, count_few, entry_parts, number_few, first_parts, total_shown}
-
--- the laws of the crates below
-pub record Below : Type 0 where
-  pub cuts : CutsAreExact
-  pub numbers : NumbersAreExact
-  pub spans : SpansAreExact
-
--- ---- fields
-
-abbrev IsBar : ℕ → Type 0
-IsBar b = (b ≡ 10) ⊎ (b ≡ 124)
-
-no_digit : (b : ℕ) → IsBar b → IsNoDigit b
-no_digit b h = grind arith
-
-number_lacks : Below → (b n : ℕ) → IsBar b → n ≤ 2 * 10 ^ 12 → lacks b (decimal n) ≡ true
-number_lacks l b n h few = l.numbers.digits b n (no_digit b h) (omega (arith, few))
-
-small_again : Below → (n : ℕ) → n ≤ 10 ^ 12 → small (decimal n) ≡ Some n
-small_again l n few = (l.numbers.small_numbers (decimal n) n).1 (refl, omega (arith, few))
-
-payoff_again : Below → (pay : ℕ) → is_payoff pay ≡ true → payoff_of (decimal pay) ≡ Some pay
-unfolding payoff_of
-payoff_again l pay h = rw (small_again l pay (omega (arith, payoff_few pay h)), h) refl
-
-byte_is_not : (b x : ℕ) → IsBar b → is_name_byte x ≡ true → eqb x b ≡ false
-byte_is_not b x h e = grind (arith, nat_tests)
-
-bytes_lack : (b : ℕ) (xs : List ℕ) → IsBar b → list_all is_name_byte xs ≡ true → lacks b xs ≡ true
-bytes_lack b [] h e = refl
-bytes_lack b (x ∷ xs) h e =
-    let p = both_true (is_name_byte x) (list_all is_name_byte xs) e in
-    rw (byte_is_not b x h p.0) (bytes_lack b xs h p.1)
-
-name_lacks : (b : ℕ) (name : List ℕ) → IsBar b → is_name name ≡ true → lacks b name ≡ true
-name_lacks b name h e = bytes_lack b name h (both_true _ _ (both_true _ _ e).0).1
-
-name_again : (name : List ℕ) → is_name name ≡ true → name_of name ≡ Some name
-name_again name h = rw h refl
-
-lacks_either : (b : ℕ) (t : Bool) (xs ys : List ℕ) → lacks b xs ≡ true → lacks b ys ≡ true → lacks b (cond t xs ys) ≡ true
-lacks_either b true xs ys h k = h
-lacks_either b false xs ys h k = k
-
-bar_outside : (b : ℕ) → IsBar b → (b < 46) ⊎ (57 < b)
-bar_outside b h = grind arith
-
-span_lacks : Below → (b : ℕ) (span : Ends) → IsBar b → IsShown span → lacks b (score_text span) ≡ true
-span_lacks l b span h shown = l.spans.digits b 12 span (bar_outside b h) shown
-
-span_again : Below → (span : Ends) → IsShown span → score_of (score_text span) ≡ Some span
-span_again l span shown = (l.spans.spans 12 (score_text span) span (inr refl)).1 (shown, refl)
-
-score_lacks : Below → (b : ℕ) (score : Ends) → IsBar b → is_score score ≡ true → lacks b (score_text score) ≡ true
-score_lacks l b score h e = span_lacks l b score h (score_shown score e)
-
-score_again : Below → (score : Ends) → is_score score ≡ true → score_of (score_text score) ≡ Some score
-score_again l score h = span_again l score (score_shown score h)
-
-count_lacks : Below → (b n : ℕ) → IsBar b → is_count n ≡ true → lacks b (decimal n) ≡ true
-count_lacks l b n h few = number_lacks l b n h (omega (arith, count_few n few))
-
-count_again : Below → (n : ℕ) → is_count n ≡ true → count_of (decimal n) ≡ Some n
-unfolding count_of
-count_again l n few = rw (small_again l n (omega (arith, count_few n few)), few) refl
+use Rattle.report_lines.specs.Texts.{dilemma_word, is_dilemma, game_text, noise_text, players_text, score_text, winner_word, scores_text, counts_text, match_text, line_text, are_payoffs, is_noise, counts_are, is_match, is_line, drill_text, points_text, first_form, total_text, is_number, are_points, is_first}
+use Rattle.report_lines.specs.Reading.{rest, kind_of, game_of, noise_of, tally_of, counts_of, scores_of, match_of, entry_of, first_of, drill_line, fixed, guess, if_text, line_of, LinesAreExact}
+use Rattle.report_lines.proofs.FieldLaws.{Below, IsBar, no_digit, number_lacks, small_again, payoff_again, name_lacks, name_again, lacks_either, span_lacks, score_lacks, score_again, points_again}
+use Rattle.report_lines.proofs.EntryLaws.{entry_exact}
+use Rattle.report_lines.proofs.FirstLaws.{first_exact}
+use Rattle.report_lines.proofs.InRange.{both_true, game_parts, payoff_few, noise_few, CountsFew, counts_few, MatchParts, match_parts, number_few, total_shown}
 
 -- ---- a line is guessed from its text
 
@@ -236,65 +169,8 @@ match_again l m h =
       scores_again l m p,
     ) refl
 
-no_true : false ≡ true → ⊥
-no_true e = absurd cc
-
--- a number is no word
-word_is_no_number : Below → (n : ℕ) → is_count n ≡ true → bytes_eq (decimal n) (codes "undecided") ≡ true → ⊥
-word_is_no_number l n few e =
-    let same : decimal n ≡ codes "undecided" = (bytes_eq-Decides (decimal n) (codes "undecided")).0 e in
-    let u : IsNoDigit 117 = grind arith in
-    let lacked : lacks 117 (decimal n) ≡ true = l.numbers.digits 117 n u (omega (arith, count_few n few)) in
-    no_true (ap (lacks 117) (sym same) ∙ lacked)
-
-by_word : (t : Bool) (n : ℕ) → (t ≡ true → ⊥) → cond t (Some None) (Some (Some n)) ≡ Some (Some n)
-by_word true n h = absurd (h refl)
-by_word false n h = refl
-
-rank_again : Below → (rank : Option ℕ) → is_rank rank ≡ true → rank_of (rank_text rank) ≡ Some rank
-unfolding rank_of
-rank_again l None h = refl
-rank_again l (Some rank) h = rw (count_again l rank h) (by_word (bytes_eq (decimal rank) (codes "undecided")) rank (word_is_no_number l rank h))
-
-rank_lacks : Below → (b : ℕ) (rank : Option ℕ) → IsBar b → is_rank rank ≡ true → lacks b (rank_text rank) ≡ true
-rank_lacks l b None (inl e) h = rw e refl
-rank_lacks l b None (inr e) h = rw e refl
-rank_lacks l b (Some rank) bar h = count_lacks l b rank bar h
-
-entry_again : Below → (x : ShownEntry) → is_entry x ≡ true → entry_of (rest (entry_text x)) ≡ Some x
-unfolding entry_of
-entry_again l x h =
-    let p = entry_parts x h in
-    let bar : IsBar 124 = inr refl in
-    let name = name_lacks 124 x.name bar p.name in
-    let total = span_lacks l 124 x.total bar p.total in
-    let rank = rank_lacks l 124 x.rank bar p.rank in
-    let wins = count_lacks l 124 x.wins bar p.wins in
-    let undecided = count_lacks l 124 x.undecided bar p.undecided in
-    let t3 : List ℕ = decimal x.undecided in
-    let t2 : List ℕ = decimal x.wins ++ 124 ∷ t3 in
-    let t1 : List ℕ = rank_text x.rank ++ 124 ∷ t2 in
-    let t0 : List ℕ = score_text x.total ++ 124 ∷ t1 in
-    let regroup : rest (entry_text x) ≡ x.name ++ 124 ∷ t0 = simp append_assoc in
-    ap entry_of regroup ∙ rw (
-      l.cuts.before_it 124 x.name t0 name,
-      l.cuts.behind_it 124 x.name t0 name,
-      name_again x.name p.name,
-      l.cuts.before_it 124 (score_text x.total) t1 total,
-      l.cuts.behind_it 124 (score_text x.total) t1 total,
-      span_again l x.total p.total,
-      l.cuts.before_it 124 (rank_text x.rank) t2 rank,
-      l.cuts.behind_it 124 (rank_text x.rank) t2 rank,
-      rank_again l x.rank p.rank,
-      l.cuts.before_it 124 (decimal x.wins) t3 wins,
-      l.cuts.behind_it 124 (decimal x.wins) t3 wins,
-      count_again l x.wins p.wins,
-      l.cuts.before_none 124 (decimal x.undecided) undecided,
-      count_again l x.undecided p.undecided,
-    ) refl
-
 drill_again : Below → (number : ℕ) → is_number number ≡ true → guess (drill_text number) ≡ Some (lines.Drill number)
-unfolding guess drill_line
+unfolding guess fixed drill_line
 drill_again l number h =
     let few = number_few number h in
     let bar : IsBar 124 = inr refl in
@@ -302,43 +178,28 @@ drill_again l number h =
     let again : small (decimal number) ≡ Some number = (l.numbers.small_numbers (decimal number) number).1 (refl, few) in
     rw (l.cuts.before_it 124 (decimal number) (codes "64|1000000000") n, again) refl
 
-points_again : Below → (units : ℤ) → IsShown (point units) → points_of (points_text units) ≡ Some units
-unfolding points_of
-points_again l units shown = rw (span_again l (point units) shown) refl
-
-first_again : Below → (x : ShownFirst) → is_first x ≡ true → guess (first_text x) ≡ Some (lines.First x)
-unfolding guess drill_line first_of
-first_again l x h =
-    let p = first_parts x h in
-    let bar : IsBar 124 = inr refl in
-    let name = name_lacks 124 x.name bar p.name in
-    let total = span_lacks l 124 (point x.total) bar p.total in
-    rw (
-      l.cuts.before_it 124 x.name (points_text x.total) name,
-      l.cuts.behind_it 124 x.name (points_text x.total) name,
-      name_again x.name p.name,
-      l.cuts.before_none 124 (points_text x.total) total,
-      points_again l x.total p.total,
-    ) refl
-
 total_again : Below → (sum : ℤ) → are_points sum ≡ true → guess (total_text sum) ≡ Some (lines.Total sum)
-unfolding guess drill_line
+unfolding guess fixed drill_line
 total_again l sum h =
     let shown = total_shown (point sum) h in
     let bar : IsBar 124 = inr refl in
     rw (l.cuts.before_none 124 (points_text sum) (span_lacks l 124 (point sum) bar shown), points_again l sum shown) refl
 
+first_guessed : Below → (x : ShownFirst) → is_first x ≡ true → guess (codes "first|" ++ first_form.text x) ≡ Some (lines.First x)
+unfolding guess fixed drill_line first_of
+first_guessed l x h = rw ((first_exact l).again x h) refl
+
 guess_again : Below → (line : Line) → is_line line ≡ true → guess (line_text line) ≡ Some line
-unfolding guess kind_of
+unfolding guess fixed kind_of entry_of
 guess_again l (lines.Head kinds.Match) h = refl
 guess_again l (lines.Head kinds.Tournament) h = refl
 guess_again l (lines.Head kinds.Drill) h = refl
 guess_again l (lines.Game game) h = rw (game_again l game h) refl
 guess_again l (lines.Noise noise) h = rw (noise_again l noise h) refl
 guess_again l (lines.Match m) h = rw (match_again l m h) refl
-guess_again l (lines.Entry x) h = rw (entry_again l x h) refl
+guess_again l (lines.Entry x) h = rw ((entry_exact l).again x h) refl
 guess_again l (lines.Drill number) h = drill_again l number h
-guess_again l (lines.First x) h = first_again l x h
+guess_again l (lines.First x) h = first_guessed l x h
 guess_again l (lines.Total sum) h = total_again l sum h
 guess_again l lines.End h = refl
 
@@ -413,29 +274,11 @@ match_line l m h =
     l.cuts.together 10 (players_text m.left m.right m.turns) _ players
     (l.cuts.together 10 (scores_text m.left_score m.right_score) _ scores (counts_line l m.turns m.tally p.turns p.counts))
 
-entry_line : Below → (x : ShownEntry) → is_entry x ≡ true → lacks 10 (entry_text x) ≡ true
-entry_line l x h =
-    let p = entry_parts x h in
-    let feed : IsBar 10 = inl refl in
-    let front : lacks 10 (entry_front x.name x.total) ≡ true =
-    l.cuts.together 10 x.name _ (name_lacks 10 x.name feed p.name)
-    (l.cuts.together 10 (score_text x.total) _ (span_lacks l 10 x.total feed p.total) refl) in
-    let counts : lacks 10 (entry_counts x.wins x.undecided) ≡ true =
-    l.cuts.together 10 (decimal x.wins) _ (count_lacks l 10 x.wins feed p.wins) (count_lacks l 10 x.undecided feed p.undecided) in
-    l.cuts.together 10 (entry_front x.name x.total) _ front
-    (l.cuts.together 10 (rank_text x.rank) _ (rank_lacks l 10 x.rank feed p.rank) counts)
-
 drill_one : Below → (number : ℕ) → is_number number ≡ true → lacks 10 (drill_text number) ≡ true
 drill_one l number h =
     let few = number_few number h in
     let feed : IsBar 10 = inl refl in
     l.cuts.together 10 (decimal number) _ (l.numbers.digits 10 number (no_digit 10 feed) (omega (arith, few))) refl
-
-first_one : Below → (x : ShownFirst) → is_first x ≡ true → lacks 10 (first_text x) ≡ true
-first_one l x h =
-    let p = first_parts x h in
-    let feed : IsBar 10 = inl refl in
-    l.cuts.together 10 x.name _ (name_lacks 10 x.name feed p.name) (span_lacks l 10 (point x.total) feed p.total)
 
 total_one : Below → (sum : ℤ) → are_points sum ≡ true → lacks 10 (total_text sum) ≡ true
 total_one l sum h = let feed : IsBar 10 = inl refl in span_lacks l 10 (point sum) feed (total_shown (point sum) h)
@@ -447,9 +290,9 @@ one_line l (lines.Head kinds.Drill) h = refl
 one_line l (lines.Game game) h = game_line l game h
 one_line l (lines.Noise noise) h = noise_line l noise h
 one_line l (lines.Match m) h = match_line l m h
-one_line l (lines.Entry x) h = entry_line l x h
+one_line l (lines.Entry x) h = (entry_exact l).one_line x h
 one_line l (lines.Drill number) h = drill_one l number h
-one_line l (lines.First x) h = first_one l x h
+one_line l (lines.First x) h = (first_exact l).one_line x h
 one_line l (lines.Total sum) h = total_one l sum h
 one_line l lines.End h = refl
 

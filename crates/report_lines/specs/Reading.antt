@@ -1,38 +1,22 @@
 -- Reading a line: its fields are read as if it were one, and the line is kept where it is in range and has this very text.
-use Rattle.std.specs.Prelude.{codes, ◌≡◌, ℕ, ℤ, ◌&&◌, true, List, Option, Some, None, if◌then◌else◌}
+use Rattle.std.specs.Prelude.{codes, ◌≡◌, ℕ, ◌&&◌, true, List, Option, Some, None, if◌then◌else◌}
 use Rattle.std.specs.Str.{bytes_eq}
 use Rattle.history_model.specs.declared.tally.Tally.{Tally}
 use Rattle.history_model.specs.Game.{Payoffs}
-use Rattle.history_model.specs.Name.{is_name}
 use Rattle.history_model.specs.Noise.{FlipRate}
-use Rattle.texts.specs.Cuts.{before, behind, lacks}
+use Rattle.texts.specs.Cuts.{lacks}
 use Rattle.texts.specs.Numbers.{◌>>=◌, small}
 use Rattle.fixed_span.specs.Span.{Ends}
-use Rattle.fixed_span.specs.Texts.{span_of}
 use Rattle.report_lines.specs.declared.line.Kind.{Kind}
 use Rattle.report_lines.specs.declared.line.Kind.TheVariants as kinds
 use Rattle.report_lines.specs.declared.line.ShownMatch.{ShownMatch}
-use Rattle.report_lines.specs.declared.line.ShownEntry.{ShownEntry}
-use Rattle.report_lines.specs.declared.line.ShownFirst.{ShownFirst}
 use Rattle.report_lines.specs.declared.line.Line.{Line}
 use Rattle.report_lines.specs.declared.line.Line.TheVariants as lines
-use Rattle.report_lines.specs.Texts.{is_payoff, is_noise, is_count, line_text, is_line}
-
--- the first field
-abbrev pub field : List ℕ → List ℕ
-field t = before 124 t
-
--- what stands behind the first field
-abbrev pub rest : List ℕ → List ℕ
-rest t = behind 124 t
-
--- the name that a field is
-abbrev pub name_of : List ℕ → Option (List ℕ)
-name_of t = if is_name t then Some t else None
-
--- the score that a field shows
-abbrev pub score_of : List ℕ → Option Ends
-score_of t = span_of 12 t
+use Rattle.report_lines.specs.Texts.{is_payoff, is_noise, line_text, is_line}
+pub use Rattle.report_lines.specs.Fields.{field, rest, name_of, score_of}
+unfoldable pub use Rattle.report_lines.specs.Fields.{count_of, rank_of, points_of}
+unfoldable pub use Rattle.report_lines.specs.EntryForm.{entry_of}
+unfoldable pub use Rattle.report_lines.specs.FirstForm.{first_of}
 
 -- what a report is of, by its word
 unfoldable pub kind_of : List ℕ → Option Kind
@@ -92,35 +76,6 @@ match_of t = do
   x ← scores_of (rest (rest (rest t)))
   Some (record { left = left; right = right; turns = turns; left_score = x.0; right_score = x.1; tally = x.2 })
 
--- the count that a field shows
-unfoldable pub count_of : List ℕ → Option ℕ
-count_of t = small t >>= λ n. if is_count n then Some n else None
-
--- the rank that a field shows, which may be undecided
-unfoldable pub rank_of : List ℕ → Option (Option ℕ)
-rank_of t = if bytes_eq t (codes "undecided") then Some None else (count_of t >>= λ rank. Some (Some rank))
-
--- the entry, in what stands behind `entry`
-unfoldable pub entry_of : List ℕ → Option ShownEntry
-entry_of t = do
-  name ← name_of (field t)
-  total ← score_of (field (rest t))
-  rank ← rank_of (field (rest (rest t)))
-  wins ← count_of (field (rest (rest (rest t))))
-  undecided ← count_of (field (rest (rest (rest (rest t)))))
-  Some (record { name = name; total = total; rank = rank; wins = wins; undecided = undecided })
-
--- the points that a field shows; a span that is none has another text
-unfoldable pub points_of : List ℕ → Option ℤ
-points_of t = score_of t >>= λ score. Some score.lo
-
--- the machine, in what stands behind `first`
-unfoldable pub first_of : List ℕ → Option ShownFirst
-first_of t = do
-  name ← name_of (field t)
-  total ← points_of (field (rest t))
-  Some (record { name = name; total = total })
-
 -- the line of a drill by its first field, and what stands behind it
 unfoldable pub drill_line : List ℕ → List ℕ → Option Line
 drill_line word t =
@@ -128,15 +83,19 @@ drill_line word t =
     if bytes_eq word (codes "first") then (first_of t >>= λ x. Some (lines.First x)) else
     if bytes_eq word (codes "total") then (points_of (field t) >>= λ sum. Some (lines.Total sum)) else None
 
--- a line by its first field; what its other fields don't need isn't looked at
+-- a line by its first field, and what stands behind it; what its other fields don't need isn't looked at
+unfoldable pub fixed : List ℕ → List ℕ → Option Line
+fixed word t =
+    if bytes_eq word (codes "match") then (match_of t >>= λ m. Some (lines.Match m)) else
+    if bytes_eq word (codes "entry") then (entry_of t >>= λ x. Some (lines.Entry x)) else
+    if bytes_eq word (codes "axlab") then (kind_of (rest t) >>= λ kind. Some (lines.Head kind)) else
+    if bytes_eq word (codes "game") then (game_of t >>= λ game. Some (lines.Game game)) else
+    if bytes_eq word (codes "noise") then (noise_of t >>= λ noise. Some (lines.Noise noise)) else
+    if bytes_eq word (codes "end") then Some lines.End else drill_line word t
+
+-- a line by its first field
 unfoldable pub guess : List ℕ → Option Line
-guess t =
-    if bytes_eq (field t) (codes "match") then (match_of (rest t) >>= λ m. Some (lines.Match m)) else
-    if bytes_eq (field t) (codes "entry") then (entry_of (rest t) >>= λ x. Some (lines.Entry x)) else
-    if bytes_eq (field t) (codes "axlab") then (kind_of (rest (rest t)) >>= λ kind. Some (lines.Head kind)) else
-    if bytes_eq (field t) (codes "game") then (game_of (rest t) >>= λ game. Some (lines.Game game)) else
-    if bytes_eq (field t) (codes "noise") then (noise_of (rest t) >>= λ noise. Some (lines.Noise noise)) else
-    if bytes_eq (field t) (codes "end") then Some lines.End else drill_line (field t) (rest t)
+guess t = fixed (field t) (rest t)
 
 -- a line that is in range and has this text
 abbrev pub if_text : List ℕ → Line → Option Line

@@ -6,18 +6,18 @@ use Rattle.history_model.specs.Game.{Payoffs}
 use Rattle.history_model.specs.Name.{is_name}
 use Rattle.history_model.specs.Noise.{FlipRate}
 use Rattle.history_model.specs.Tally.{total}
-use Rattle.fixed_span.specs.Span.{Ends, point}
-use Rattle.fixed_span.specs.Texts.{span_text}
+use Rattle.fixed_span.specs.Span.{Ends}
 use Rattle.fixed_span.specs.Verdict.{verdict}
 use Rattle.fixed_span.specs.declared.ordering.Verdict.{Verdict}
 use Rattle.fixed_span.specs.declared.ordering.Verdict.TheVariants as verdicts
 use Rattle.report_lines.specs.declared.line.Kind.{Kind}
 use Rattle.report_lines.specs.declared.line.Kind.TheVariants as kinds
 use Rattle.report_lines.specs.declared.line.ShownMatch.{ShownMatch}
-use Rattle.report_lines.specs.declared.line.ShownEntry.{ShownEntry}
-use Rattle.report_lines.specs.declared.line.ShownFirst.{ShownFirst}
 use Rattle.report_lines.specs.declared.line.Line.{Line}
 use Rattle.report_lines.specs.declared.line.Line.TheVariants as lines
+pub use Rattle.report_lines.specs.Fields.{score_text, rank_text, points_text, is_total, is_count, is_rank, are_points}
+pub use Rattle.report_lines.specs.EntryForm.{entry_form, is_entry}
+pub use Rattle.report_lines.specs.FirstForm.{first_form, is_first}
 
 -- what a report is of, as a word
 abbrev pub kind_word : Kind → List ℕ
@@ -53,10 +53,6 @@ abbrev pub players_text : List ℕ → List ℕ → ℕ → List ℕ
 players_text left right turns =
     codes "match|" ++ (left ++ (codes "|" ++ (right ++ (codes "|" ++ (decimal turns ++ codes "|")))))
 
--- a score, with twelve decimals: a point once, and any other span by both ends
-abbrev pub score_text : Ends → List ℕ
-score_text score = span_text 12 score
-
 -- who scored more, as far as two spans tell
 abbrev pub winner_word : Verdict → List ℕ
 winner_word verdicts.Greater = codes "left"
@@ -80,34 +76,9 @@ counts_text (Some tally) =
 abbrev pub match_text : ShownMatch → List ℕ
 match_text m = players_text m.left m.right m.turns ++ (scores_text m.left_score m.right_score ++ counts_text m.tally)
 
--- whose line it is, and what it scored in all
-abbrev pub entry_front : List ℕ → Ends → List ℕ
-entry_front name total = codes "entry|" ++ (name ++ (codes "|" ++ (score_text total ++ codes "|")))
-
--- a rank, or that the totals leave it undecided
-abbrev pub rank_text : Option ℕ → List ℕ
-rank_text None = codes "undecided"
-rank_text (Some rank) = decimal rank
-
--- in how many matches an entry won, and in how many the winner is undecided
-abbrev pub entry_counts : ℕ → ℕ → List ℕ
-entry_counts wins undecided = codes "|" ++ (decimal wins ++ (codes "|" ++ decimal undecided))
-
--- an entry of a tournament: its name and total, rank and counts
-abbrev pub entry_text : ShownEntry → List ℕ
-entry_text x = entry_front x.name x.total ++ (rank_text x.rank ++ entry_counts x.wins x.undecided)
-
 -- the number of a drill, its 64 machines, and the turns of each match
 abbrev pub drill_text : ℕ → List ℕ
 drill_text number = codes "drill|" ++ (decimal number ++ codes "|64|1000000000")
-
--- a score that is a point
-abbrev pub points_text : ℤ → List ℕ
-points_text units = score_text (point units)
-
--- a machine of the first rank, and its total
-abbrev pub first_text : ShownFirst → List ℕ
-first_text x = codes "first|" ++ (x.name ++ (codes "|" ++ points_text x.total))
 
 -- the sum of all totals
 abbrev pub total_text : ℤ → List ℕ
@@ -119,9 +90,9 @@ line_text (lines.Head kind) = head_text kind
 line_text (lines.Game game) = game_text game
 line_text (lines.Noise noise) = noise_text noise
 line_text (lines.Match m) = match_text m
-line_text (lines.Entry x) = entry_text x
+line_text (lines.Entry x) = codes "entry|" ++ entry_form.text x
 line_text (lines.Drill number) = drill_text number
-line_text (lines.First x) = first_text x
+line_text (lines.First x) = codes "first|" ++ first_form.text x
 line_text (lines.Total sum) = total_text sum
 line_text lines.End = codes "end"
 
@@ -157,34 +128,9 @@ abbrev pub is_match : ShownMatch → Bool
 is_match m =
     (is_name m.left && is_name m.right) && ((is_turns m.turns && is_score m.left_score) && (is_score m.right_score && counts_are m.turns m.tally))
 
--- from 0 to 10^37 units
-abbrev pub is_total : Ends → Bool
-is_total total = int_le (pos 0) total.lo && (int_le total.lo total.hi && int_le total.hi (pos (10 ^ 37)))
-
--- a number of matches or entries, below 2^32
-abbrev pub is_count : ℕ → Bool
-is_count n = nat_lt n (2 ^ 32)
-
--- a rank is a count, where it is decided
-abbrev pub is_rank : Option ℕ → Bool
-is_rank None = true
-is_rank (Some rank) = is_count rank
-
--- all that the line of an entry shows is in range
-abbrev pub is_entry : ShownEntry → Bool
-is_entry x = (is_name x.name && is_total x.total) && (is_rank x.rank && (is_count x.wins && is_count x.undecided))
-
 -- a number below 2^64
 abbrev pub is_number : ℕ → Bool
 is_number n = nat_lt n (2 ^ 64)
-
--- from 0 to 10^37 units
-abbrev pub are_points : ℤ → Bool
-are_points units = is_total (point units)
-
--- all that the line of a machine shows is in range
-abbrev pub is_first : ShownFirst → Bool
-is_first x = is_name x.name && are_points x.total
 
 -- each kind of line
 abbrev pub is_line : Line → Bool

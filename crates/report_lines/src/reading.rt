@@ -2,7 +2,7 @@
 ghost use Rattle.std.specs.Prelude.{◌≡◌, ◌≤◌, true, IfOk, IfSome};
 ghost use Rattle.std.specs.Str.{bytes_eq};
 ghost use Rattle.report_lines.specs.Texts.{is_payoff, are_payoffs, is_noise, is_turns, is_score, counts_are, is_match, is_total, is_count, is_rank, is_entry, is_line, is_number, are_points, is_first};
-ghost use Rattle.report_lines.specs.Reading.{name_of, score_of, kind_of, payoff_of, game_of, noise_of, tally_of, counts_of, scores_of, match_of, count_of, rank_of, entry_of, points_of, first_of, drill_line, guess, line_of};
+ghost use Rattle.report_lines.specs.Reading.{name_of, score_of, kind_of, payoff_of, game_of, noise_of, tally_of, counts_of, scores_of, match_of, count_of, rank_of, entry_of, points_of, first_of, drill_line, fixed, guess, line_of};
 
 use crate::writing::push_line;
 use crate::{Kind, Line, ShownEntry, ShownFirst, ShownMatch};
@@ -178,8 +178,7 @@ fn entry_of(text: &[u8]) -> Option<ShownEntry>
     let (name, rest) = cut(text, b'|');
     let (total, rest) = cut(rest, b'|');
     let (rank, rest) = cut(rest, b'|');
-    let (wins, rest) = cut(rest, b'|');
-    let (undecided, _) = cut(rest, b'|');
+    let (wins, undecided) = cut(rest, b'|');
     let name = name_of(name)?;
     let total = score_of(total)?;
     let rank = rank_of(rank)?;
@@ -207,8 +206,7 @@ fn points_of(text: &[u8]) -> Option<i128>
 fn first_of(text: &[u8]) -> Option<ShownFirst>
     ensures { result ≡ first_of text.now }
 {
-    let (name, rest) = cut(text, b'|');
-    let (total, _) = cut(rest, b'|');
+    let (name, total) = cut(text, b'|');
     let name = name_of(name)?;
     let total = points_of(total)?;
     Some(ShownFirst { name, total })
@@ -236,11 +234,10 @@ fn drill_line(word: &[u8], rest: &[u8]) -> Option<Line>
 }
 
 // A line by its first field; what its other fields don't need isn't looked at.
-#[tactic(auto, unfolding(crate::specs::Reading::guess))]
-fn guess(text: &[u8]) -> Option<Line>
-    ensures { result ≡ guess text.now }
+#[tactic(auto, unfolding(crate::specs::Reading::fixed))]
+fn fixed(word: &[u8], rest: &[u8]) -> Option<Line>
+    ensures { result ≡ fixed word.now rest.now }
 {
-    let (word, rest) = cut(text, b'|');
     if is(word, "match") {
         let found = match_of(rest)?;
         return Some(Line::Match(found));
@@ -266,6 +263,15 @@ fn guess(text: &[u8]) -> Option<Line>
         return Some(Line::End);
     }
     drill_line(word, rest)
+}
+
+// A line by its first field.
+#[tactic(auto, unfolding(crate::specs::Reading::guess))]
+fn guess(text: &[u8]) -> Option<Line>
+    ensures { result ≡ guess text.now }
+{
+    let (word, rest) = cut(text, b'|');
+    fixed(word, rest)
 }
 
 fn are_payoffs(game: &Game) -> bool

@@ -1,8 +1,8 @@
 //! Writes lines.
-ghost use Rattle.std.specs.Prelude.{◌≡◌, ◌≤◌, ◌^◌, ◌++◌, true, Some, OnOk, string_bytes};
+ghost use Rattle.std.specs.Prelude.{◌≡◌, ◌≤◌, ◌^◌, ◌++◌, true, codes, Some, OnOk, string_bytes};
 ghost use Rattle.history_model.specs.Tally.{total};
 ghost use Rattle.fixed_span.specs.Verdict.{verdict};
-ghost use Rattle.report_lines.specs.Texts.{kind_word, head_text, is_dilemma, dilemma_word, game_text, noise_text, players_text, winner_word, scores_text, counts_text, match_text, entry_front, rank_text, entry_counts, entry_text, line_text, is_score, is_match, counts_are, is_total, is_entry, is_line, drill_text, first_text, total_text, are_points, is_first};
+ghost use Rattle.report_lines.specs.Texts.{kind_word, head_text, is_dilemma, dilemma_word, game_text, noise_text, players_text, winner_word, scores_text, counts_text, match_text, rank_text, entry_form, line_text, is_score, is_match, counts_are, is_total, is_entry, is_line, drill_text, first_form, total_text, are_points, is_first};
 
 use crate::{Kind, Line, ShownEntry, ShownFirst, ShownMatch};
 use fixed_span::{ScoreSpan, Span, Verdict, compare};
@@ -108,14 +108,6 @@ fn add_match(text: &mut String, found: &ShownMatch) -> Result<(), AllocError>
     add_counts(text, &found.tally, found.turns)
 }
 
-fn add_entry_front(text: &mut String, name: &Name, total: Span) -> Result<(), AllocError>
-    requires { is_total total ≡ true }
-    ensures { OnOk result (string_bytes text.new ≡ string_bytes text.old ++ entry_front name.now total) }
-{
-    let total = ScoreSpan { span: total };
-    write!(text, "entry|{name}|{total}|")
-}
-
 fn add_rank(text: &mut String, rank: Option<u32>) -> Result<(), AllocError>
     ensures { OnOk result (string_bytes text.new ≡ string_bytes text.old ++ rank_text rank) }
 {
@@ -125,19 +117,23 @@ fn add_rank(text: &mut String, rank: Option<u32>) -> Result<(), AllocError>
     }
 }
 
-fn add_entry_counts(text: &mut String, wins: u32, undecided: u32) -> Result<(), AllocError>
-    ensures { OnOk result (string_bytes text.new ≡ string_bytes text.old ++ entry_counts wins undecided) }
+fn shown_total(total: Span) -> ScoreSpan
+    requires { is_total total ≡ true }
+    ensures { result.span ≡ total }
 {
-    write!(text, "|{wins}|{undecided}")
+    ScoreSpan { span: total }
 }
 
 fn add_entry(text: &mut String, entry: &ShownEntry) -> Result<(), AllocError>
     requires { is_entry entry.now ≡ true }
-    ensures { OnOk result (string_bytes text.new ≡ string_bytes text.old ++ entry_text entry.now) }
+    ensures { OnOk result (string_bytes text.new ≡ string_bytes text.old ++ (codes "entry|" ++ entry_form.text entry.now)) }
 {
-    add_entry_front(text, &entry.name, entry.total)?;
+    let name = &entry.name;
+    let total = shown_total(entry.total);
+    let (wins, undecided) = (entry.wins, entry.undecided);
+    write!(text, "entry|{name}|{total}|")?;
     add_rank(text, entry.rank)?;
-    add_entry_counts(text, entry.wins, entry.undecided)
+    write!(text, "|{wins}|{undecided}")
 }
 
 fn add_drill(text: &mut String, number: u64) -> Result<(), AllocError>
@@ -148,7 +144,7 @@ fn add_drill(text: &mut String, number: u64) -> Result<(), AllocError>
 
 fn add_first(text: &mut String, first: &ShownFirst) -> Result<(), AllocError>
     requires { is_first first.now ≡ true }
-    ensures { OnOk result (string_bytes text.new ≡ string_bytes text.old ++ first_text first.now) }
+    ensures { OnOk result (string_bytes text.new ≡ string_bytes text.old ++ (codes "first|" ++ first_form.text first.now)) }
 {
     let name = &first.name;
     let total = ScoreSpan {
