@@ -6,14 +6,14 @@ use Rattle.history_model.specs.Automaton.{Automaton, IsAutomaton, IsSure}
 use Rattle.history_model.specs.History.{History}
 use Rattle.history_model.specs.Path.{match_path}
 use Rattle.history_model.specs.Tally.{counts, total, CountsArePaid}
-use Rattle.player_core.specs.State.{PlayerState, Lasting, IsState, more, state_at, lasting_at, lasting_of}
+use Rattle.player_core.specs.State.{BenchState, PlayerState, Lasting, IsState, more, state_at, lasting_at, lasting_of}
 use Rattle.player_core.specs.Sheet.{SheetData, Takes}
 use Rattle.player_core.specs.AutomatonOf.{automaton_of, loaded}
 use Rattle.player_core.specs.Bench.{KeepsPlugs}
 use Rattle.player_core.specs.Counts.{Advanced, turns_of}
 use Rattle.player_core.specs.Laws.{CountsAddUp, KeepingLasts, OneChange}
 use Rattle.match_play.specs.Fresh.{IsFresh}
-use Rattle.match_play.specs.Match.{after_match, HasPlayed}
+use Rattle.match_play.specs.Match.{AdvancedAtMost, after_match, HasPlayed}
 use Rattle.match_play.specs.Followed.{HasFollowed, FollowedOnBench}
 
 pub record SideMoved (old mid new : List PlayerState) (k turns : ℕ) (sheet : SheetData) (after : PlayerState) : Type 0 where
@@ -158,4 +158,12 @@ has_played change old mid new k sheet seen history inside load played same takes
   inside = inside;
   takes = let P : Lasting → Type 0 = λ l. Takes l sheet in subst P (change.read old k) takes;
   after = side_after old mid new k sheet seen history inside load played same;
+}
+
+-- in a match of two automata a side makes at most as many advances as their pairs of rows allow
+pub followed_at_most : (a b : Automaton) (turns : ℕ) (old new : BenchState) → FollowedOnBench a b turns old.left new.left old.right new.right
+    → let most = 2 * (length a.rows * length b.rows) in AdvancedAtMost most most old new
+followed_at_most a b turns old new f = record {
+  left = omega (arith, f.within, f.left_advanced.most);
+  right = omega (arith, f.within, f.right_advanced.most);
 }

@@ -8,7 +8,7 @@ use Rattle.player_core.specs.Sheet.{SheetData}
 use Rattle.player_core.specs.Entry.{entry_on}
 use Rattle.player_core.specs.Counts.{Advanced}
 use Rattle.match_play.specs.Fresh.{IsFresh}
-use Rattle.match_play.specs.Match.{after_steps}
+use Rattle.match_play.specs.Match.{AdvancedAtMost, after_steps}
 
 -- two players stand where their match leads. Each was resumed at its start and then advanced equally often: at most twice
 -- for each pair of rows, and once for each turn before a pair of rows comes again
@@ -28,6 +28,11 @@ pub record FollowedOnBench (a b : Automaton) (turns : ℕ) (left left_now right 
   pub left_advanced : Advanced steps left left_now
   pub right_advanced : Advanced steps right right_now
 
--- the same of a match of two sheets
+-- a match of what two sheets play
 abbrev pub FollowedOn : BenchState → BenchState → SheetData → SheetData → ℕ → Type 0
 FollowedOn old new left right turns = FollowedOnBench (entry_on old left) (entry_on old right) turns old.left new.left old.right new.right
+
+-- each side made at most two advances for each pair of rows
+abbrev pub FollowedAtMostOn : BenchState → BenchState → SheetData → SheetData → Type 0
+FollowedAtMostOn old new left right =
+    let most = 2 * (length (entry_on old left).rows * length (entry_on old right).rows) in AdvancedAtMost most most old new

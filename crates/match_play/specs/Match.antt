@@ -1,5 +1,5 @@
 -- What a match does to its players.
-use Rattle.std.specs.Prelude.{ℕ, ◌≡◌, ◌<◌, List, length, slice_set}
+use Rattle.std.specs.Prelude.{ℕ, ◌≡◌, ◌+◌, ◌*◌, ◌≤◌, ◌<◌, List, length, slice_set}
 use Rattle.history_model.specs.History.{History, turned, walk}
 use Rattle.history_model.specs.Automaton.{Automaton}
 use Rattle.history_model.specs.Path.{match_path}
@@ -7,7 +7,7 @@ use Rattle.player_core.specs.State.{BenchState, PlayerState, more, state_at}
 use Rattle.player_core.specs.Sheet.{SheetData, Takes}
 use Rattle.player_core.specs.AutomatonOf.{loaded}
 use Rattle.player_core.specs.Entry.{entry_on}
-use Rattle.player_core.specs.Counts.{Advanced}
+use Rattle.player_core.specs.Counts.{Advanced, side_turns}
 
 -- a player that was resumed at its start and advanced so many times, and stands where a history leads from there
 abbrev pub after_steps : PlayerState → History → ℕ → PlayerState
@@ -51,3 +51,13 @@ pub record HavePlayed (old new : BenchState) (left right : SheetData) (turns : �
 pub record BothAdvanced (k : ℕ) (old new : BenchState) : Type 0 where
   pub left : Advanced k old.left new.left
   pub right : Advanced k old.right new.right
+
+-- the left side of a bench made at most m advances, and the right one n
+pub record AdvancedAtMost (m n : ℕ) (old new : BenchState) : Type 0 where
+  pub left : side_turns new.left ≤ side_turns old.left + m
+  pub right : side_turns new.right ≤ side_turns old.right + n
+
+-- each side made at most four advances for each row of what its sheet plays
+abbrev pub ReadAtMostOn : BenchState → BenchState → SheetData → SheetData → Type 0
+ReadAtMostOn old new left right =
+    AdvancedAtMost (4 * length (entry_on old left).rows) (4 * length (entry_on old right).rows) old new

@@ -1,11 +1,12 @@
 //! The automata that two sheets play on a bench, as grids.
-ghost use Rattle.std.specs.Prelude.{◌≡◌, ◌*◌, ◌<◌, IfOk, length};
+ghost use Rattle.std.specs.Prelude.{◌≡◌, ◌+◌, ◌*◌, ◌≤◌, ◌<◌, IfOk, length};
 ghost use Rattle.player_core.specs.State.{IsState, lasting_of, state_at};
 ghost use Rattle.player_core.specs.Fits.{Fits};
 ghost use Rattle.player_core.specs.Entry.{entry_on};
 ghost use Rattle.player_core.specs.Bench.{KeepsBench};
-ghost use Rattle.player_core.specs.Counts.{Advanced};
+ghost use Rattle.player_core.specs.Counts.{Advanced, side_turns};
 ghost use Rattle.match_play.specs.Known.{IsKnownOn};
+ghost use Rattle.match_play.specs.Match.{ReadAtMostOn, automaton_at};
 
 use crate::on_bench::place_of;
 use history_model::{Grid, NoMemory};
@@ -31,13 +32,15 @@ pub(crate) fn rows_at(players: &Side, place: usize) -> u32
     rows_of(&players[place])
 }
 
-// The automaton of the player at a place of a side, which is advanced four times for each row.
+// The automaton of the player at a place of a side, which is advanced four times for each row; without
+// memory, at most these.
 #[tactic(auto, using(player_core::proofs::Sides::map_read, player_core::proofs::Sides::lasting_kept))]
 pub(crate) fn tabulate_at(alloc: Global, players: &mut Side, place: usize) -> Result<Grid, NoMemory>
     requires { place < length (⟦<Side as Seats>⟧.seats players.old) }
-    ensures grid { IfOk result (λ grid. grid ≡ (state_at (⟦<Side as Seats>⟧.seats players.old) place).lasting.automaton) }
+    ensures grid { IfOk result (λ grid. grid ≡ automaton_at (⟦<Side as Seats>⟧.seats players.old) place) }
     ensures lasting { lasting_of (⟦<Side as Seats>⟧.seats players.new) ≡ lasting_of (⟦<Side as Seats>⟧.seats players.old) }
-    ensures advanced { IfOk result (λ _. Advanced (4 * length (state_at (⟦<Side as Seats>⟧.seats players.old) place).lasting.automaton.rows) (⟦<Side as Seats>⟧.seats players.old) (⟦<Side as Seats>⟧.seats players.new)) }
+    ensures advanced { let old = ⟦<Side as Seats>⟧.seats players.old in IfOk result (λ _. Advanced (4 * length (automaton_at old place).rows) old (⟦<Side as Seats>⟧.seats players.new)) }
+    ensures most { let old = ⟦<Side as Seats>⟧.seats players.old in side_turns (⟦<Side as Seats>⟧.seats players.new) ≤ side_turns old + 4 * length (automaton_at old place).rows }
     ensures valid { IsState (state_at (⟦<Side as Seats>⟧.seats players.old) place) }
 {
     one_change();
@@ -46,8 +49,8 @@ pub(crate) fn tabulate_at(alloc: Global, players: &mut Side, place: usize) -> Re
 }
 
 /// Reads the automata that two sheets play: each side's player that takes its sheet is given it, and
-/// is then read row by row, with four advances for each row. All other players stay as they are, so
-/// the bench goes on fitting with the same plugs, also without memory.
+/// is then read row by row, with four advances for each row; without memory, at most these. The bench
+/// goes on fitting with the same plugs, also without memory.
 ///
 /// # Errors
 ///
@@ -65,6 +68,7 @@ pub fn tabulate_sheets(
     ensures right_grid { IfOk result (λ grids. grids.1 ≡ entry_on (⟦<Bench as Seen>⟧.view bench.old) right.now) }
     ensures left_advanced { let old = ⟦<Bench as Seen>⟧.view bench.old in IfOk result (λ _. Advanced (4 * length (entry_on old left.now).rows) old.left (⟦<Bench as Seen>⟧.view bench.new).left) }
     ensures right_advanced { let old = ⟦<Bench as Seen>⟧.view bench.old in IfOk result (λ _. Advanced (4 * length (entry_on old right.now).rows) old.right (⟦<Bench as Seen>⟧.view bench.new).right) }
+    ensures most { ReadAtMostOn (⟦<Bench as Seen>⟧.view bench.old) (⟦<Bench as Seen>⟧.view bench.new) left.now right.now }
     ensures kept { KeepsBench (⟦<Bench as Seen>⟧.view bench.old) (⟦<Bench as Seen>⟧.view bench.new) }
 {
     keeping_lasts();

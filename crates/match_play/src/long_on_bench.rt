@@ -1,14 +1,14 @@
 //! A long match of two sheets, on a bench.
-ghost use Rattle.std.specs.Prelude.{◌≡◌, ◌<◌, ◌≤◌, ◌*◌, ◌^◌, IfOk, length, slice_set};
+ghost use Rattle.std.specs.Prelude.{◌≡◌, ◌<◌, ◌≤◌, ◌*◌, ◌^◌, IfOk, OnErr, length, slice_set};
 ghost use Rattle.history_model.specs.Automaton.{IsAutomaton, IsSure};
 ghost use Rattle.history_model.specs.Tally.{counts, total};
 ghost use Rattle.player_core.specs.State.{IsState, state_at};
 ghost use Rattle.player_core.specs.Fits.{Fits};
 ghost use Rattle.player_core.specs.Entry.{entry_on};
-ghost use Rattle.player_core.specs.Bench.{KeepsBench};
+ghost use Rattle.player_core.specs.Bench.{KeepsBench, SameTurns};
 ghost use Rattle.match_play.specs.Known.{IsKnownOn};
 ghost use Rattle.match_play.specs.Match.{automaton_at, path_at, path_on};
-ghost use Rattle.match_play.specs.Followed.{FollowedOn, HasFollowed};
+ghost use Rattle.match_play.specs.Followed.{FollowedAtMostOn, FollowedOn, HasFollowed};
 
 use crate::grids::rows_at;
 use crate::on_bench::place_of;
@@ -49,14 +49,14 @@ fn play_long_at(trail: &mut Trail, bench: &mut Bench, i: usize, j: usize, turns:
     play_long(trail, &mut bench.left[i], &mut bench.right[j], turns)
 }
 
-/// Plays a match of at most 10^12 turns between the players that take two sure sheets, as
-/// `play_sheets` does, but by `play_long`: each side makes at most two advances for each pair of rows,
-/// and at least one for each turn before a pair of rows comes again. The trail is given the room that
-/// the two players need. The bench goes on fitting with the same plugs, also without memory.
+/// Plays a match of at most 10^12 turns between the players that take two sure sheets, by `play_long`:
+/// each side makes at most two advances for each pair of rows, and at least one for each turn before a
+/// pair of rows comes again. The trail keeps its room, and gets more where the two players need it. The
+/// bench goes on fitting with the same plugs, also without memory.
 ///
 /// # Errors
 ///
-/// `NoMemory` where the trail finds no memory. Then nothing was played.
+/// `NoMemory` where the trail finds no memory. Then no advance is made.
 pub fn play_sheets_long(
     trail: &mut Trail,
     bench: &mut Bench,
@@ -75,6 +75,8 @@ pub fn play_sheets_long(
     ensures left_valid { IfOk result (λ _. IsAutomaton (entry_on (⟦<Bench as Seen>⟧.view bench.old) left.now)) }
     ensures right_valid { IfOk result (λ _. IsAutomaton (entry_on (⟦<Bench as Seen>⟧.view bench.old) right.now)) }
     ensures followed { IfOk result (λ _. FollowedOn (⟦<Bench as Seen>⟧.view bench.old) (⟦<Bench as Seen>⟧.view bench.new) left.now right.now turns) }
+    ensures most { FollowedAtMostOn (⟦<Bench as Seen>⟧.view bench.old) (⟦<Bench as Seen>⟧.view bench.new) left.now right.now }
+    ensures unplayed { OnErr result (SameTurns (⟦<Bench as Seen>⟧.view bench.old) (⟦<Bench as Seen>⟧.view bench.new)) }
     ensures kept { KeepsBench (⟦<Bench as Seen>⟧.view bench.old) (⟦<Bench as Seen>⟧.view bench.new) }
     ensures trail_kept { trail.old ≤ trail.new }
 {

@@ -1,19 +1,24 @@
 -- Counts of a side that grow.
-use Rattle.std.proofs.Common.{◌≡◌, ◌⊎◌, inl, inr, ℕ, zero, suc, ◌+◌, ◌-◌, ◌^◌, ◌≤◌, ◌<◌, List, [], ◌∷◌, length, length-set, sum, map, slice_set, slice_index, refl, sym, ◌∙◌, ap, arith}
+use Rattle.std.proofs.Common.{◌≡◌, ◌⊎◌, inl, inr, ℕ, zero, suc, ◌+◌, ◌-◌, ◌^◌, ◌≤◌, ◌<◌, List, [], ◌∷◌, length, length-set, sum, map, slice_set, slice_index, slice_index_or, refl, sym, ◌∙◌, ap, arith}
 use Rattle.std.proofs.lemmas.List.{map-set, length-map, get_or-set_same}
 use Rattle.std.proofs.lemmas.List.Sums.{sum_by-set}
 use Rattle.std.proofs.Math.ListN as listn
 use Rattle.player_core.specs.State.{PlayerState, more, state_at, no_state}
-use Rattle.player_core.specs.Counts.{Grew, GrewAtLeast, NoneFell, IsFull}
+use Rattle.player_core.specs.Counts.{Grew, GrewAtLeast, NoneFell, IsFull, returns_of}
+use Rattle.player_core.specs.Bench.{IsRestarted}
 use Rattle.player_core.specs.Laws.{CountsAddUp, OneChange}
 use Rattle.player_core.proofs.Keeping.{lasting_set, kept_set}
 use Rattle.player_core.proofs.Sides.{lasting_read}
 
-none_fell_both : (first second third : List ℕ) → NoneFell first second → NoneFell second third → NoneFell first third
+pub none_fell_both : (first second third : List ℕ) → NoneFell first second → NoneFell second third → NoneFell first third
 none_fell_both first second third h i = record {
   length_is = i.length_is ∙ h.length_is;
   grown = λ k. omega (arith, h.grown k, i.grown k);
 }
+
+-- a count is not below itself
+pub none_fell_same : (counts : List ℕ) → NoneFell counts counts
+none_fell_same counts = record { length_is = refl; grown = λ k. omega arith }
 
 -- a full count stays full
 full_stays : (old new : List ℕ) → NoneFell old new → IsFull old → IsFull new
@@ -21,7 +26,7 @@ full_stays old new h full =
     (full.0, omega (arith, h.length_is, full.1), omega (arith, h.grown full.0, full.2))
 
 none : (counts : List ℕ) → Grew 0 counts counts
-none counts = record { none_fell = record { length_is = refl; grown = λ k. omega arith }; most = omega arith; total = inl (omega arith) }
+none counts = record { none_fell = none_fell_same counts; most = omega arith; total = inl (omega arith) }
 
 total_both : (j k : ℕ) (first second third : List ℕ) → (sum second ≡ sum first + j) ⊎ IsFull second → (sum third ≡ sum second + k) ⊎ IsFull third → NoneFell second third → (sum third ≡ sum first + (j + k)) ⊎ IsFull third
 total_both j k first second third (inl h) (inl i) n = inl (omega (arith, h, i))
@@ -72,6 +77,28 @@ grown_set (c ∷ cs) zero x h zero = h
 grown_set (c ∷ cs) zero x h (suc j) = omega arith
 grown_set (c ∷ cs) (suc k) x h zero = omega arith
 grown_set (c ∷ cs) (suc k) x h (suc j) = grown_set cs k x h j
+
+returns_at : {A : Type 0} (f : A → PlayerState) (xs : List A) (i : ℕ) (x y : A) → x ≡ slice_index_or xs i x → (f x).returns ≤ (f y).returns
+    → (j : ℕ) → slice_index (returns_of (map f xs)) j ≤ slice_index (returns_of (map f (slice_set xs i y))) j
+returns_at f [] i x y is le j = omega arith
+returns_at f (a ∷ others) zero x y is le zero = let e : (f x).returns ≡ (f a).returns = ap (λ z. (f z).returns) is in omega (arith, e, le)
+returns_at f (a ∷ others) zero x y is le (suc j) = omega arith
+returns_at f (a ∷ others) (suc i) x y is le zero = omega arith
+returns_at f (a ∷ others) (suc i) x y is le (suc j) = returns_at f others i x y is le j
+
+as_many : {A : Type 0} (f : A → PlayerState) (xs : List A) (i : ℕ) (y : A) → length (returns_of (map f (slice_set xs i y))) ≡ length (returns_of (map f xs))
+as_many f [] i y = refl
+as_many f (a ∷ others) zero y = refl
+as_many f (a ∷ others) (suc i) y = let rest = as_many f others i y in omega (arith, rest)
+
+-- one item is changed to y, of which f sees no fewer resumes
+pub returns_grown : {A : Type 0} (f : A → PlayerState) (xs : List A) (i : ℕ) (x y : A) → x ≡ slice_index_or xs i x → (f x).returns ≤ (f y).returns
+    → NoneFell (returns_of (map f xs)) (returns_of (map f (slice_set xs i y)))
+returns_grown f xs i x y is le = record { length_is = as_many f xs i y; grown = returns_at f xs i x y is le }
+
+-- no count had fallen before a restart, and none has after it
+pub fell_through : (old mid new : List PlayerState) → IsRestarted mid new → NoneFell (returns_of old) (returns_of mid) → NoneFell (returns_of old) (returns_of new)
+fell_through old mid new restarted before = none_fell_both _ _ _ before restarted.none_fell
 
 more_cases : (n k : ℕ) → n < 2 ^ 64 → (more n k ≡ n + k) ⊎ (more n k ≡ 2 ^ 64 - 1)
 more_cases n k h = grind arith

@@ -1,14 +1,15 @@
 -- Sides that keep their plugs.
-use Rattle.std.proofs.Common.{◌≡◌, ℕ, zero, suc, ◌<◌, ◌≤◌, List, [], ◌∷◌, length, length-set, slice_set, refl, sym, ◌∙◌, arith}
+use Rattle.std.proofs.Common.{◌≡◌, ℕ, zero, suc, ◌<◌, ◌≤◌, List, [], ◌∷◌, length, length-set, slice_set, refl, sym, ◌∙◌, ap, arith}
 use Rattle.std.proofs.lemmas.List.{map-set}
 use Rattle.player_core.specs.declared.kind.Kind.{Kind}
 use Rattle.player_core.specs.declared.kind.Kind.TheVariants.{Plug}
 use Rattle.history_model.specs.Automaton.{Automaton}
 use Rattle.player_core.specs.State.{PlayerState, Lasting, lasting_at, lasting_of, state_at}
 use Rattle.player_core.specs.Sheet.{SheetData, Takes}
-use Rattle.player_core.specs.AutomatonOf.{automaton_by}
+use Rattle.player_core.specs.AutomatonOf.{automaton_by, loaded}
 use Rattle.player_core.specs.Fits.{SidesFit, IsPlaceOf, HaveKinds, NamesDiffer, first_plug}
 use Rattle.player_core.specs.Bench.{IsKept, KeepsPlugs}
+use Rattle.player_core.specs.Counts.{returns_of, turns_of}
 use Rattle.player_core.specs.Laws.{KeepingLasts, LoadKeeps}
 use Rattle.player_core.proofs.Fitting.{plug_of_place}
 use Rattle.player_core.proofs.Sides.{lasting_read}
@@ -111,3 +112,14 @@ kept_set states k state h =
       length_is = length-set (lasting_of states) k state.lasting;
       places = kept_at (lasting_of states) k state.lasting (rw lasting_read h);
     })
+
+-- a load changes no count
+pub turns_loaded : (states : List PlayerState) (k : ℕ) (sheet : SheetData) → turns_of (slice_set states k (loaded (state_at states k) sheet)) ≡ turns_of states
+turns_loaded [] k sheet = refl
+turns_loaded (s ∷ rest) zero sheet = refl
+turns_loaded (s ∷ rest) (suc k) sheet = ap (λ counts. s.turns ∷ counts) (turns_loaded rest k sheet)
+
+pub returns_loaded : (states : List PlayerState) (k : ℕ) (sheet : SheetData) → returns_of (slice_set states k (loaded (state_at states k) sheet)) ≡ returns_of states
+returns_loaded [] k sheet = refl
+returns_loaded (s ∷ rest) zero sheet = refl
+returns_loaded (s ∷ rest) (suc k) sheet = ap (λ counts. s.returns ∷ counts) (returns_loaded rest k sheet)

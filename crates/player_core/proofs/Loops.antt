@@ -5,7 +5,7 @@ use Rattle.player_core.specs.declared.bench.PlugNote.{PlugNote}
 use Rattle.player_core.specs.State.{PlayerState, at_start, lasting_of, lasting_at}
 use Rattle.player_core.specs.Sheet.{SheetData, Takes}
 use Rattle.player_core.specs.Fits.{IsTwin, first_plug, kind_of_place}
-use Rattle.player_core.specs.Counts.{turns_of}
+use Rattle.player_core.specs.Counts.{NoneFell, returns_of, turns_of}
 use Rattle.player_core.specs.Bench.{note_of, notes_of}
 
 pub record KindsSoFar (states : List PlayerState) (k end : ℕ) : Type 0 where
@@ -28,17 +28,21 @@ pub record TwinsSoFar (left right left_now right_now : List PlayerState) (k end 
   pub right_same : lasting_of right_now ≡ lasting_of right
   pub left_length : length left_now ≡ length left
   pub right_length : length right_now ≡ length right
+  pub left_fell : NoneFell (returns_of left) (returns_of left_now)
+  pub right_fell : NoneFell (returns_of right) (returns_of right_now)
   pub end_is : end ≡ length left
 
 pub record RestartedSoFar (begin now : List PlayerState) (k end : ℕ) : Type 0 where
   pub seen : now ≡ map at_start (take k begin) ++ drop k begin
   pub end_is : end ≡ length begin
   pub length_same : length now ≡ length begin
+  pub fell : NoneFell (returns_of begin) (returns_of now)
 
 -- the notes so far and those to come are all notes
 pub record NotesSoFar (begin now : List PlayerState) (notes : List PlugNote) (k end : ℕ) : Type 0 where
   pub lasting_same : lasting_of now ≡ lasting_of begin
   pub turns_same : turns_of now ≡ turns_of begin
+  pub fell : NoneFell (returns_of begin) (returns_of now)
   pub length_same : length now ≡ length begin
   pub seen : notes ++ map note_of (drop k (lasting_of begin)) ≡ notes_of (lasting_of begin)
   pub end_is : end ≡ length begin

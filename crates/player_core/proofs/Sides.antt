@@ -5,7 +5,7 @@ use Rattle.std.proofs.lemmas.List.Edits.{map_over_more}
 use Rattle.std.proofs.Math.ListN as listn
 use Rattle.std.proofs.Math.Seq.{map-set_same}
 use Rattle.player_core.specs.State.{PlayerState, IsAtStart, at_start, lasting_of, lasting_at, state_at, no_state}
-use Rattle.player_core.specs.Counts.{turns_of}
+use Rattle.player_core.specs.Counts.{NoneFell, returns_of, turns_of}
 use Rattle.player_core.specs.Bench.{IsRestarted}
 
 -- what f sees at a place, from the item there
@@ -58,13 +58,13 @@ start_at old k h =
     get_or-map at_start old k no_state no_state (omega (arith, h, length-map old at_start)) in
     rw e refl
 
-pub restarted : (old new : List PlayerState) → new ≡ map at_start old → IsRestarted old new
-restarted old new e =
-    rw e (record {
-      lasting = map_unseen at_start (λ state. state.lasting) old (λ b. refl);
-      turns = map_unseen at_start (λ state. state.turns) old (λ b. refl);
-      starts = start_at old;
-    })
+pub restarted : (old new : List PlayerState) → new ≡ map at_start old → NoneFell (returns_of old) (returns_of new) → IsRestarted old new
+restarted old new e fell = record {
+  lasting = ap lasting_of e ∙ map_unseen at_start (λ state. state.lasting) old (λ b. refl);
+  turns = ap turns_of e ∙ map_unseen at_start (λ state. state.turns) old (λ b. refl);
+  none_fell = fell;
+  starts = rw e (start_at old);
+}
 
 -- what lasted before a restart lasts after it
 pub lasting_through : (old mid new : List PlayerState) → IsRestarted mid new → lasting_of mid ≡ lasting_of old → lasting_of new ≡ lasting_of old

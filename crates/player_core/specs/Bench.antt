@@ -6,7 +6,7 @@ use Rattle.player_core.specs.declared.kind.Kind.TheVariants.{Plug}
 use Rattle.player_core.specs.declared.bench.PlugNote.{PlugNote}
 use Rattle.player_core.specs.State.{BenchState, PlayerState, Lasting, AreAtStart, lasting_at, lasting_of}
 use Rattle.player_core.specs.Fits.{Fits, first_plug}
-use Rattle.player_core.specs.Counts.{turns_of}
+use Rattle.player_core.specs.Counts.{NoneFell, returns_of, turns_of}
 
 -- a player later on: of the same kind and name, and a plug has the same automaton
 pub record IsKept (old new : Lasting) : Type 0 where
@@ -35,6 +35,18 @@ pub record SameTurns (old new : BenchState) : Type 0 where
   pub left : turns_of new.left ≡ turns_of old.left
   pub right : turns_of new.right ≡ turns_of old.right
 
+-- no count of either side of a bench has fallen
+pub record NoneFellOn (counts : List PlayerState → List ℕ) (old new : BenchState) : Type 0 where
+  pub left : NoneFell (counts old.left) (counts new.left)
+  pub right : NoneFell (counts old.right) (counts new.right)
+
+-- no count of advances, or of resumes
+abbrev pub NoAdvancesFell : BenchState → BenchState → Type 0
+NoAdvancesFell old new = NoneFellOn turns_of old new
+
+abbrev pub NoResumesFell : BenchState → BenchState → Type 0
+NoResumesFell old new = NoneFellOn returns_of old new
+
 -- every player of a bench stands at its start
 pub record StandsAtStart (bench : BenchState) : Type 0 where
   pub left : AreAtStart bench.left
@@ -44,6 +56,7 @@ pub record StandsAtStart (bench : BenchState) : Type 0 where
 pub record IsRestarted (old new : List PlayerState) : Type 0 where
   pub lasting : lasting_of new ≡ lasting_of old
   pub turns : turns_of new ≡ turns_of old
+  pub none_fell : NoneFell (returns_of old) (returns_of new)
   pub starts : AreAtStart new
 
 -- whether every weight is 0 or the denominator

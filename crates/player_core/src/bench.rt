@@ -3,7 +3,7 @@ ghost use Rattle.std.specs.Prelude.{◌≡◌, ◌↔◌, IsTrue, IfOk, MatchOpt
 ghost use Rattle.player_core.specs.State.{lasting_of, players_of};
 ghost use Rattle.player_core.specs.AutomatonOf.{loaded_at};
 ghost use Rattle.player_core.specs.Fits.{Fits, HaveLength, HaveShape, IsPlaceOn, NoPlugNamed};
-ghost use Rattle.player_core.specs.Bench.{IsRestarted, KeepsBench, SameLasting, SameTurns, StandsAtStart, notes_of};
+ghost use Rattle.player_core.specs.Bench.{IsRestarted, KeepsBench, NoResumesFell, SameLasting, SameTurns, StandsAtStart, notes_of};
 
 use crate::laws::keeping_lasts;
 use crate::places::{load_place, takes_at};
@@ -90,10 +90,12 @@ impl Bench {
     }
 
     /// Whether the bench fits. The automata are compared by resuming each mark, so the counts may
-    /// rise. Kinds, names and automata stay, and every mark ends at its start. Nothing is allocated.
+    /// rise. No count of resumes falls; kinds, names and automata stay, and every mark ends at its
+    /// start. Nothing is allocated.
     pub fn fits(&mut self) -> bool
         ensures value { IsTrue result ↔ Fits (⟦<Bench as Seen>⟧.view self.old) }
         ensures lasting { SameLasting (⟦<Bench as Seen>⟧.view self.old) (⟦<Bench as Seen>⟧.view self.new) }
+        ensures returns { NoResumesFell (⟦<Bench as Seen>⟧.view self.old) (⟦<Bench as Seen>⟧.view self.new) }
         ensures starts { StandsAtStart (⟦<Bench as Seen>⟧.view self.new) }
     {
         let answer = self.have_shape() && all_twins(&mut self.left, &mut self.right);
@@ -116,13 +118,15 @@ impl Bench {
     }
 
     /// Gives a sheet to the left player at its place, and one to the right player at its place. All
-    /// other players stay as they are, and the bench goes on fitting.
+    /// other players stay as they are. No advance is made, and the bench goes on fitting with the same
+    /// plugs.
     pub fn load(&mut self, left_place: usize, left: &Sheet, right_place: usize, right: &Sheet)
         requires fits { Fits (⟦<Bench as Seen>⟧.view self.old) }
         requires left { IsPlaceOn (⟦<Bench as Seen>⟧.view self.old) left.now left_place }
         requires right { IsPlaceOn (⟦<Bench as Seen>⟧.view self.old) right.now right_place }
         ensures left { (⟦<Bench as Seen>⟧.view self.new).left ≡ loaded_at (⟦<Bench as Seen>⟧.view self.old).left left_place left.now }
         ensures right { (⟦<Bench as Seen>⟧.view self.new).right ≡ loaded_at (⟦<Bench as Seen>⟧.view self.old).right right_place right.now }
+        ensures turns { SameTurns (⟦<Bench as Seen>⟧.view self.old) (⟦<Bench as Seen>⟧.view self.new) }
         ensures kept { KeepsBench (⟦<Bench as Seen>⟧.view self.old) (⟦<Bench as Seen>⟧.view self.new) }
     {
         keeping_lasts();
@@ -130,8 +134,9 @@ impl Bench {
         load_place(&mut self.right, right_place, right);
     }
 
-    /// A note of each plug, in order of place, of a bench that fits. No advance is made. Kinds, names
-    /// and automata stay, and every mark ends at its start, also without memory.
+    /// A note of each plug, in order of place, of a bench that fits. No advance is made, and no count
+    /// of resumes falls. Kinds, names and automata stay, and every mark ends at its start, also without
+    /// memory.
     ///
     /// # Errors
     ///
@@ -141,6 +146,7 @@ impl Bench {
         ensures notes { IfOk result (λ notes. notes.items ≡ notes_of (players_of (⟦<Bench as Seen>⟧.view self.old))) }
         ensures lasting { SameLasting (⟦<Bench as Seen>⟧.view self.old) (⟦<Bench as Seen>⟧.view self.new) }
         ensures turns { SameTurns (⟦<Bench as Seen>⟧.view self.old) (⟦<Bench as Seen>⟧.view self.new) }
+        ensures returns { NoResumesFell (⟦<Bench as Seen>⟧.view self.old) (⟦<Bench as Seen>⟧.view self.new) }
         ensures starts { StandsAtStart (⟦<Bench as Seen>⟧.view self.new) }
     {
         let found = read_notes(alloc, &mut self.left);

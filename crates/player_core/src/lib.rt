@@ -16,5 +16,5 @@ pub use kind::Kind;
 pub use names::no_name;
 pub use places::{load_place, restart};
 pub use player::{Player, Seats, Side};
-pub use reading::tabulate;
+pub use reading::{is_sure, tabulate};
 pub use sheet::Sheet;

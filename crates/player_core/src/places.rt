@@ -1,8 +1,9 @@
 //! One place of a side.
-ghost use Rattle.std.specs.Prelude.{◌≡◌, ◌<◌, ◌↔◌, IsTrue, length, slice_set};
+ghost use Rattle.std.specs.Prelude.{◌≡◌, ◌<◌, ◌≤◌, ◌↔◌, IsTrue, length, slice_set};
 ghost use Rattle.player_core.specs.State.{IsState, at_start, state_at, lasting_at, lasting_of};
 ghost use Rattle.player_core.specs.Sheet.{Takes};
 ghost use Rattle.player_core.specs.AutomatonOf.{loaded};
+ghost use Rattle.player_core.specs.Counts.{returns_of, turns_of};
 ghost use Rattle.player_core.specs.Bench.{KeepsPlugs};
 
 use crate::laws::{load_keeps, one_change};
@@ -12,6 +13,7 @@ use history_model::Name;
 /// Resumes a player at its start.
 pub fn restart(player: &mut Box<dyn Player>)
     ensures state { state player.new ≡ at_start (state player.old) }
+    ensures returns { (state player.old).returns ≤ (state player.new).returns }
     ensures valid { IsState (state player.old) }
 {
     let start = player.start();
@@ -34,12 +36,16 @@ fn load_at(players: &mut Side, k: usize, sheet: &Sheet)
     load(&mut players[k], sheet);
 }
 
-/// Gives a sheet to the player at a place, which takes it. All other players stay as they are.
+/// Gives a sheet to the player at a place, which takes it. All other players stay as they are, and so
+/// do the counts of this one.
+#[tactic(auto, using(crate::proofs::Keeping::turns_loaded, crate::proofs::Keeping::returns_loaded))]
 pub fn load_place(players: &mut Side, place: usize, sheet: &Sheet)
     requires inside { place < length (⟦<Side as Seats>⟧.seats players.old) }
     requires takes { Takes (lasting_at (lasting_of (⟦<Side as Seats>⟧.seats players.old)) place) sheet.now }
     ensures states { ⟦<Side as Seats>⟧.seats players.new ≡ slice_set (⟦<Side as Seats>⟧.seats players.old) place (loaded (state_at (⟦<Side as Seats>⟧.seats players.old) place) sheet.now) }
     ensures kept { KeepsPlugs (lasting_of (⟦<Side as Seats>⟧.seats players.old)) (lasting_of (⟦<Side as Seats>⟧.seats players.new)) }
+    ensures turns { turns_of (⟦<Side as Seats>⟧.seats players.new) ≡ turns_of (⟦<Side as Seats>⟧.seats players.old) }
+    ensures returns { returns_of (⟦<Side as Seats>⟧.seats players.new) ≡ returns_of (⟦<Side as Seats>⟧.seats players.old) }
 {
     one_change();
     load_keeps();

@@ -11,10 +11,13 @@ use std::alloc::Global;
 
 /// The row to which a play leads from a row, by one advance.
 fn next_from(player: &mut Box<dyn Player>, mark: u32, mine: Move, theirs: Move) -> u32
-    requires { mark < length (state player.old).lasting.automaton.rows }
+    requires valid { IsState (state player.old) }
+    requires mark { mark < length (state player.old).lasting.automaton.rows }
     ensures next { result ≡ next_row (state player.old).lasting.automaton mark (record { mine = mine; theirs = theirs }) }
     ensures lasting { (state player.new).lasting ≡ (state player.old).lasting }
     ensures turns { (state player.new).turns ≡ more (state player.old).turns 1 }
+    ensures returns { (state player.old).returns ≤ (state player.new).returns }
+    ensures valid { IsState (state player.new) }
 {
     player.resume(mark);
     player.advance(mine, theirs);
@@ -23,10 +26,13 @@ fn next_from(player: &mut Box<dyn Player>, mark: u32, mine: Move, theirs: Move) 
 
 /// The weight of a row.
 fn weight_from(player: &mut Box<dyn Player>, mark: u32) -> u32
-    requires { mark < length (state player.old).lasting.automaton.rows }
+    requires valid { IsState (state player.old) }
+    requires mark { mark < length (state player.old).lasting.automaton.rows }
     ensures weight { result ≡ weight_at (state player.old).lasting.automaton mark }
     ensures lasting { (state player.new).lasting ≡ (state player.old).lasting }
     ensures turns { (state player.new).turns ≡ (state player.old).turns }
+    ensures returns { (state player.old).returns ≤ (state player.new).returns }
+    ensures valid { IsState (state player.new) }
 {
     player.resume(mark);
     player.weight()
@@ -34,10 +40,13 @@ fn weight_from(player: &mut Box<dyn Player>, mark: u32) -> u32
 
 /// A row, by four advances.
 fn read_row(player: &mut Box<dyn Player>, mark: u32) -> GridRow
-    requires { mark < length (state player.old).lasting.automaton.rows }
+    requires valid { IsState (state player.old) }
+    requires mark { mark < length (state player.old).lasting.automaton.rows }
     ensures row { plain_row result ≡ row_at (state player.old).lasting.automaton mark }
     ensures lasting { (state player.new).lasting ≡ (state player.old).lasting }
     ensures turns { (state player.new).turns ≡ more (state player.old).turns 4 }
+    ensures returns { (state player.old).returns ≤ (state player.new).returns }
+    ensures valid { IsState (state player.new) }
 {
     let cc = next_from(player, mark, Move::C, Move::C);
     let cd = next_from(player, mark, Move::C, Move::D);
@@ -58,6 +67,7 @@ fn read_rows(alloc: Global, player: &mut Box<dyn Player>) -> Result<Vec<GridRow>
     ensures turns { IfOk result (λ _. (state player.new).turns ≡ more (state player.old).turns (4 * length (state player.old).lasting.automaton.rows)) }
     ensures most_turns { (state player.new).turns ≤ more (state player.old).turns (4 * length (state player.old).lasting.automaton.rows) }
     ensures least_turns { (state player.old).turns ≤ (state player.new).turns }
+    ensures returns { (state player.old).returns ≤ (state player.new).returns }
 {
     let count = player.rows();
     let mut rows = Vec::new(alloc);
@@ -85,6 +95,7 @@ pub fn tabulate(alloc: Global, player: &mut Box<dyn Player>) -> Result<Grid, NoM
     ensures turns { IfOk result (λ _. (state player.new).turns ≡ more (state player.old).turns (4 * length (state player.old).lasting.automaton.rows)) }
     ensures most_turns { (state player.new).turns ≤ more (state player.old).turns (4 * length (state player.old).lasting.automaton.rows) }
     ensures least_turns { (state player.old).turns ≤ (state player.new).turns }
+    ensures returns { (state player.old).returns ≤ (state player.new).returns }
 {
     let found = read_rows(alloc, player);
     restart(player);
@@ -100,21 +111,31 @@ pub fn tabulate(alloc: Global, player: &mut Box<dyn Player>) -> Result<Grid, NoM
 
 // Whether two players agree in a row.
 fn same_row(left: &mut Box<dyn Player>, right: &mut Box<dyn Player>, mark: u32) -> bool
+    requires left_valid { IsState (state left.old) }
+    requires right_valid { IsState (state right.old) }
     requires left { mark < length (state left.old).lasting.automaton.rows }
     requires right { mark < length (state right.old).lasting.automaton.rows }
     ensures same { IsTrue result ↔ row_at (state left.old).lasting.automaton mark ≡ row_at (state right.old).lasting.automaton mark }
     ensures left { (state left.new).lasting ≡ (state left.old).lasting }
     ensures right { (state right.new).lasting ≡ (state right.old).lasting }
+    ensures left_returns { (state left.old).returns ≤ (state left.new).returns }
+    ensures right_returns { (state right.old).returns ≤ (state right.new).returns }
+    ensures left_valid { IsState (state left.new) }
+    ensures right_valid { IsState (state right.new) }
 {
     read_row(left, mark) == read_row(right, mark)
 }
 
 // Whether two players with equally many rows agree in each.
 fn same_rows(left: &mut Box<dyn Player>, right: &mut Box<dyn Player>) -> bool
-    requires { length (state left.old).lasting.automaton.rows ≡ length (state right.old).lasting.automaton.rows }
+    requires left_valid { IsState (state left.old) }
+    requires right_valid { IsState (state right.old) }
+    requires rows { length (state left.old).lasting.automaton.rows ≡ length (state right.old).lasting.automaton.rows }
     ensures same { IsTrue result ↔ (state left.old).lasting.automaton.rows ≡ (state right.old).lasting.automaton.rows }
     ensures left { (state left.new).lasting ≡ (state left.old).lasting }
     ensures right { (state right.new).lasting ≡ (state right.old).lasting }
+    ensures left_returns { (state left.old).returns ≤ (state left.new).returns }
+    ensures right_returns { (state right.old).returns ≤ (state right.new).returns }
 {
     for mark in 0..left.rows() {
         if !same_row(left, right, mark) {
@@ -129,6 +150,8 @@ pub fn same_automata(left: &mut Box<dyn Player>, right: &mut Box<dyn Player>) ->
     ensures same { IsTrue result ↔ (state left.old).lasting.automaton ≡ (state right.old).lasting.automaton }
     ensures left { (state left.new).lasting ≡ (state left.old).lasting }
     ensures right { (state right.new).lasting ≡ (state right.old).lasting }
+    ensures left_returns { (state left.old).returns ≤ (state left.new).returns }
+    ensures right_returns { (state right.old).returns ≤ (state right.new).returns }
 {
     left.den() == right.den()
         && left.start() == right.start()
@@ -141,6 +164,7 @@ pub fn is_sure(player: &mut Box<dyn Player>) -> bool
     ensures sure { result ≡ is_sure (state player.old).lasting.automaton }
     ensures lasting { (state player.new).lasting ≡ (state player.old).lasting }
     ensures turns { (state player.new).turns ≡ (state player.old).turns }
+    ensures returns { (state player.old).returns ≤ (state player.new).returns }
 {
     let rows = player.rows();
     let den = player.den();

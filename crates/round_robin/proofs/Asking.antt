@@ -6,9 +6,11 @@ use Rattle.history_model.specs.Game.{Payoffs}
 use Rattle.history_model.specs.Noise.{FlipRate}
 use Rattle.match_play.specs.declared.line.MatchLine.{MatchLine}
 use Rattle.match_play.specs.Fresh.{IsFresh}
+use Rattle.match_play.specs.Match.{AdvancedAtMost}
+use Rattle.player_core.specs.State.{BenchState}
 use Rattle.player_core.specs.Counts.{Grew}
 use Rattle.product_chain.specs.Expected.{IsSureMatch}
-use Rattle.round_robin.specs.Asked.{Turns, MadeTurns, IsAsked, most_advances}
+use Rattle.round_robin.specs.Asked.{Turns, MadeTurns, IsAsked, AtMostTurns, bench_turns, most_advances}
 use Rattle.round_robin.specs.Line.{IsExpected, IsMixed}
 
 made_turns : (m n : ℕ) (before now : Turns) → Grew (4 * m) before.left now.left → Grew (4 * n) before.right now.right
@@ -75,3 +77,15 @@ mixed_by_reading a a' na b b' nb game n line same_left same_right unsure left ri
       left = subst Q same_right (subst P same_left left);
       right = subst T same_left (subst S same_right right);
     }
+
+-- ---- at most, whatever the answer
+
+-- with m and n rows, a match that is played
+pub at_most_by_playing : (m n : ℕ) (old new : BenchState) → AdvancedAtMost (2 * (m * n)) (2 * (m * n)) old new
+    → AtMostTurns (2 * (m * n) + 4 * (m + n)) (bench_turns old) (bench_turns new)
+at_most_by_playing m n old new few = record { left = omega (arith, few.left); right = omega (arith, few.right) }
+
+-- and one that is read
+pub at_most_by_reading : (m n : ℕ) (old new : BenchState) → AdvancedAtMost (4 * m) (4 * n) old new
+    → AtMostTurns (2 * (m * n) + 4 * (m + n)) (bench_turns old) (bench_turns new)
+at_most_by_reading m n old new few = record { left = omega (arith, few.left); right = omega (arith, few.right) }

@@ -1,10 +1,10 @@
 -- The players of all matches were asked.
-use Rattle.std.proofs.Common.{◌≡◌, ◌⊎◌, ◌↔◌, inl, inr, ℕ, ◌+◌, ◌<◌, ◌≤◌, Bool, true, false, IsTrue, List, [], ◌∷◌, ◌++◌, length, take, refl, sym, ◌∙◌, ap, subst, arith}
+use Rattle.std.proofs.Common.{◌≡◌, ◌⊎◌, ◌↔◌, inl, inr, ℕ, zero, suc, ◌+◌, ◌<◌, ◌≤◌, Bool, true, false, IsTrue, List, [], ◌∷◌, ◌++◌, length, take, refl, sym, ◌∙◌, ap, subst, arith}
 use Rattle.std.specs.List.{sum}
 use Rattle.std.proofs.lemmas.List.{take_more}
 use Rattle.player_core.specs.Counts.{IsFull, NoneFell}
 use Rattle.product_chain.specs.Expected.{IsSureMatch}
-use Rattle.round_robin.specs.Asked.{Turns, MadeTurns, IsAsked, NoTurnsFell, AsksFor, AskFor, PairAsked, AreAsked, AtMostTurns, most_of, most_for}
+use Rattle.round_robin.specs.Asked.{Turns, MadeTurns, IsAsked, AsksFor, AskFor, PairAsked, AreAsked, AtMostTurns, most_advances, most_of, most_for}
 use Rattle.round_robin.specs.Contest.{Strategy, strategy_at, pair_at, IsSurePair}
 
 -- ---- one match
@@ -43,20 +43,12 @@ full_stays : (old new : List ℕ) → NoneFell old new → IsFull old → IsFull
 full_stays old new fell full =
     (full.0, omega (arith, fell.length_is, full.1), omega (arith, fell.grown full.0, full.2))
 
-pub none_fell : (before : Turns) → NoTurnsFell before before
-none_fell before = record { left = record { length_is = refl; grown = λ k. omega arith }; right = record { length_is = refl; grown = λ k. omega arith } }
-
-both_fell : (first second third : List ℕ) → NoneFell first second → NoneFell second third → NoneFell first third
-both_fell first second third h i = record { length_is = i.length_is ∙ h.length_is; grown = λ k. omega (arith, h.grown k, i.grown k) }
-
-pub fell_more : (before mid now : Turns) → NoTurnsFell before mid → NoTurnsFell mid now → NoTurnsFell before now
-fell_more before mid now h i = record { left = both_fell _ _ _ h.left i.left; right = both_fell _ _ _ h.right i.right }
-
-made_more : (m k : ℕ) (before mid now : Turns) → MadeTurns m before mid → MadeTurns k mid now → NoTurnsFell mid now → MadeTurns (m + k) before now
-made_more m k before mid now (inr (inl full)) more fell = inr (inl (full_stays _ _ fell.left full))
-made_more m k before mid now (inr (inr full)) more fell = inr (inr (full_stays _ _ fell.right full))
-made_more m k before mid now (inl made) (inl more) fell = inl (omega (arith, made, more))
-made_more m k before mid now (inl made) (inr full) fell = inr full
+made_more : (m k : ℕ) (before mid now : Turns) → MadeTurns m before mid → MadeTurns k mid now → NoneFell mid.left now.left → NoneFell mid.right now.right
+    → MadeTurns (m + k) before now
+made_more m k before mid now (inr (inl full)) more left right = inr (inl (full_stays _ _ left full))
+made_more m k before mid now (inr (inr full)) more left right = inr (inr (full_stays _ _ right full))
+made_more m k before mid now (inl made) (inl more) left right = inl (omega (arith, made, more))
+made_more m k before mid now (inl made) (inr full) left right = inr full
 
 -- what matches ask for, with one more behind them
 record AskMore (strategies : List Strategy) (turns : ℕ) (pairs : List (ℕ × ℕ)) (pair : ℕ × ℕ) (n : ℕ) : Type 0 where
@@ -86,6 +78,15 @@ none_asked strategies turns before = record {
   most = record { left = omega arith; right = omega arith };
 }
 
+-- a pair takes no more advances than the match of what its two play
+pub pair_at_most : (strategies : List Strategy) (pair : ℕ × ℕ) (a b : Strategy) (before now : Turns) → strategy_at strategies pair.0 ≡ a
+    → strategy_at strategies pair.1 ≡ b → AtMostTurns (most_advances a.automaton b.automaton) before now
+    → AtMostTurns (most_of strategies pair) before now
+pair_at_most strategies pair a b before now left right few =
+    let P : Strategy → Type 0 = λ s. AtMostTurns (most_advances s.automaton b.automaton) before now in
+    let Q : Strategy → Type 0 = λ s. AtMostTurns (most_advances (strategy_at strategies pair.0).automaton s.automaton) before now in
+    subst Q (sym right) (subst P (sym left) few)
+
 -- no more than so many, with one match more
 most_more : (m k : ℕ) (before mid now : Turns) → AtMostTurns m before mid → AtMostTurns k mid now → AtMostTurns (m + k) before now
 most_more m k before mid now so_far here = record {
@@ -98,9 +99,9 @@ most_push strategies [] pair = omega arith
 most_push strategies (p ∷ ps) pair = let rest = most_push strategies ps pair in omega (arith, rest)
 
 pub asked_more : (strategies : List Strategy) (turns k : ℕ) (pairs : List (ℕ × ℕ)) (before mid now : Turns) → k < length pairs
-    → AreAsked strategies turns (take k pairs) before mid → PairAsked strategies turns (pair_at pairs k) mid now → NoTurnsFell mid now
-    → AreAsked strategies turns (take (k + 1) pairs) before now
-asked_more strategies turns k pairs before mid now inside so_far here fell =
+    → AreAsked strategies turns (take k pairs) before mid → PairAsked strategies turns (pair_at pairs k) mid now
+    → NoneFell mid.left now.left → NoneFell mid.right now.right → AreAsked strategies turns (take (k + 1) pairs) before now
+asked_more strategies turns k pairs before mid now inside so_far here left right =
     let cut = take_more pairs k (0, 0) inside in
     let R : ℕ → Type 0 = λ n. AtMostTurns n before now in
     record {
@@ -108,7 +109,25 @@ asked_more strategies turns k pairs before mid now inside so_far here fell =
           let P : List (ℕ × ℕ) → Type 0 = λ ps. AskFor strategies turns ps n in
           let m = ask_more strategies turns (take k pairs) (pair_at pairs k) n (subst P cut asks) in
           let Q : ℕ → Type 0 = λ all. MadeTurns all before now in
-          subst Q (sym m.together) (made_more m.first m.last before mid now (so_far.least m.first m.firsts_ask) (here.least m.last m.last_asks) fell);
+          subst Q (sym m.together) (made_more m.first m.last before mid now (so_far.least m.first m.firsts_ask) (here.least m.last m.last_asks) left right);
       most = subst R (sym (ap (most_for strategies) cut ∙ most_push strategies (take k pairs) (pair_at pairs k)))
           (most_more (most_for strategies (take k pairs)) (most_of strategies (pair_at pairs k)) before mid now so_far.most here.most);
+    }
+
+-- the first matches take no more advances than all
+most_within : (strategies : List Strategy) (pairs : List (ℕ × ℕ)) (k : ℕ) → most_for strategies (take k pairs) ≤ most_for strategies pairs
+most_within strategies pairs zero = omega arith
+most_within strategies [] (suc k) = omega arith
+most_within strategies (p ∷ ps) (suc k) = let rest = most_within strategies ps k in omega (arith, rest)
+
+-- nor with what was made of one more
+pub most_stopped : (strategies : List Strategy) (pairs : List (ℕ × ℕ)) (k : ℕ) (before mid now : Turns) → k < length pairs
+    → AtMostTurns (most_for strategies (take k pairs)) before mid → AtMostTurns (most_of strategies (pair_at pairs k)) mid now
+    → AtMostTurns (most_for strategies pairs) before now
+most_stopped strategies pairs k before mid now inside so_far here =
+    let cut = ap (most_for strategies) (take_more pairs k (0, 0) inside) ∙ most_push strategies (take k pairs) (pair_at pairs k) in
+    let within = most_within strategies pairs (k + 1) in
+    record {
+      left = omega (arith, so_far.left, here.left, cut, within);
+      right = omega (arith, so_far.right, here.right, cut, within);
     }

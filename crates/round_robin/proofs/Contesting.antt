@@ -1,14 +1,14 @@
 -- Contestants stay what they are while a bench keeps its plugs, and their matches add up.
 use Rattle.std.proofs.Common.{◌≡◌, Bool, ℕ, ◌+◌, ◌<◌, ◌≤◌, IsTrue, ◌↔◌, List, [], ◌∷◌, ◌++◌, length, take, refl, sym, ◌∙◌, ap, subst, arith}
 use Rattle.std.specs.List.{All}
-use Rattle.std.proofs.lemmas.List.{map-append, take_all, take_more}
+use Rattle.std.proofs.lemmas.List.{length-map, map-append, take_all, take_more}
 use Rattle.std.proofs.lemmas.List.Elements.{All-push, All-weaker}
 use Rattle.history_model.specs.Automaton.{Automaton}
 use Rattle.history_model.specs.Game.{Payoffs}
-use Rattle.player_core.specs.State.{Lasting, PlayerState, lasting_of}
+use Rattle.player_core.specs.State.{BenchState, Lasting, PlayerState, lasting_of}
 use Rattle.player_core.specs.Sheet.{SheetData}
 use Rattle.player_core.specs.Fits.{SidesFit}
-use Rattle.player_core.specs.Bench.{KeepsPlugs}
+use Rattle.player_core.specs.Bench.{KeepsBench, KeepsPlugs, NoAdvancesFell}
 use Rattle.player_core.specs.Counts.{turns_of}
 use Rattle.player_core.specs.Laws.{EntriesPlay, KeepingLasts}
 use Rattle.match_play.specs.Known.{IsKnown}
@@ -16,10 +16,10 @@ use Rattle.match_play.specs.declared.line.MatchLine.{MatchLine}
 use Rattle.round_robin.specs.declared.contestant.Contestant.{Contestant}
 use Rattle.history_model.specs.Noise.{FlipRate}
 use Rattle.player_core.specs.Entry.{entry_automaton}
-use Rattle.round_robin.specs.Asked.{Turns, AreAsked, IsAsked, NoTurnsFell, PairAsked}
-use Rattle.round_robin.specs.Contest.{AreFewTurns, IsContestant, IsSurePair, IsSureStrategy, Strategy, pair_at, strategies_of, strategy_at, strategy_of}
+use Rattle.round_robin.specs.Asked.{Turns, AreAsked, AtMostTurns, IsAsked, PairAsked, most_advances, most_for, most_of}
+use Rattle.round_robin.specs.Contest.{AreFewTurns, AreTold, IsContestant, IsPair, IsSurePair, Strategy, pair_at, strategies_of, strategy_at, strategy_of}
 use Rattle.round_robin.specs.Totals.{AreLines, HasScores, IsLineBetween}
-use Rattle.round_robin.proofs.AskingAll.{none_asked, none_fell, asked_more, fell_more, pair_asked}
+use Rattle.round_robin.proofs.AskingAll.{asked_more, most_stopped, none_asked, pair_asked, pair_at_most}
 
 -- ---- a bench that keeps its plugs
 
@@ -40,14 +40,18 @@ module _ (law : EntriesPlay) (left right left_now : List Lasting) (fits : SidesF
   strategies_kept (c ∷ cs) =
       ap (λ s. s ∷ strategies_of left_now cs) (strategy_kept c) ∙ ap (λ ss. strategy_of left c ∷ ss) (strategies_kept cs)
 
-  contestant_kept : (c : Contestant) → IsContestant left c → IsContestant left_now c
-  contestant_kept c is = record {
-    known = known_kept left left_now c.sheet.now keeps is.known;
-    sure = let P : Strategy → Type 0 = λ s. IsTrue c.sure ↔ IsSureStrategy s in subst P (sym (strategy_kept c)) is.sure;
-  }
+pub contestants_kept : (left left_now : List Lasting) → KeepsPlugs left left_now → (contestants : List Contestant)
+    → All (IsContestant left) contestants → All (IsContestant left_now) contestants
+contestants_kept left left_now keeps contestants are =
+    All-weaker (IsContestant left) (IsContestant left_now) (λ c is. known_kept left left_now c.sheet.now keeps is) contestants are
 
-  pub contestants_kept : (contestants : List Contestant) → All (IsContestant left) contestants → All (IsContestant left_now) contestants
-  contestants_kept contestants are = All-weaker (IsContestant left) (IsContestant left_now) contestant_kept contestants are
+-- a bench that keeps its plugs twice keeps them
+pub bench_kept : KeepingLasts → (old mid new : BenchState) → KeepsBench old mid → KeepsBench mid new → KeepsBench old new
+bench_kept keeping old mid new first second = record {
+  fits = second.fits;
+  left_kept = keeping.both _ _ _ first.left_kept second.left_kept;
+  right_kept = keeping.both _ _ _ first.right_kept second.right_kept;
+}
 
 -- ---- match after match
 
@@ -59,19 +63,27 @@ pub record ArePlayed (contestants : List Contestant) (game : Payoffs) (turns : �
   pub scores : All HasScores lines
   pub asked : AreAsked (strategies_of (lasting_of left) contestants) turns (take k pairs)
       (record { left = turns_of left; right = turns_of right }) (record { left = turns_of left_now; right = turns_of right_now })
-  pub fell : NoTurnsFell (record { left = turns_of left; right = turns_of right }) (record { left = turns_of left_now; right = turns_of right_now })
 
 -- what a match asks for, from the two sides as they were read
 pub pair_asked_on : (players right : List Lasting) (contestants : List Contestant) (pair : ℕ × ℕ) (turns : ℕ) (left_sheet right_sheet : SheetData) (left_noise right_noise : FlipRate) (sure : Bool) (before now : Turns)
     → SidesFit players right
     → ((players : List Lasting) → strategy_at (strategies_of players contestants) pair.0 ≡ record { automaton = entry_automaton players left_sheet; noise = left_noise })
     → ((players : List Lasting) → strategy_at (strategies_of players contestants) pair.1 ≡ record { automaton = entry_automaton players right_sheet; noise = right_noise })
-    → ((players : List Lasting) → All (IsContestant players) contestants → IsTrue sure ↔ IsSurePair (strategies_of players contestants) pair)
-    → All (IsContestant players) contestants
+    → (IsTrue sure ↔ IsSurePair (strategies_of players contestants) pair)
     → IsAsked (entry_automaton players left_sheet) left_noise (entry_automaton players right_sheet) right_noise turns before now
     → PairAsked (strategies_of players contestants) turns pair before now
-pair_asked_on players right contestants pair turns left_sheet right_sheet left_noise right_noise sure before now fits left_is right_is tells are asked =
-    pair_asked (strategies_of players contestants) pair turns _ _ sure before now (left_is players) (right_is players) (tells players are) asked
+pair_asked_on players right contestants pair turns left_sheet right_sheet left_noise right_noise sure before now fits left_is right_is tells asked =
+    pair_asked (strategies_of players contestants) pair turns _ _ sure before now (left_is players) (right_is players) tells asked
+
+-- and takes at most
+pub pair_at_most_on : (players right : List Lasting) (contestants : List Contestant) (pair : ℕ × ℕ) (left_sheet right_sheet : SheetData) (left_noise right_noise : FlipRate) (before now : Turns)
+    → SidesFit players right
+    → ((players : List Lasting) → strategy_at (strategies_of players contestants) pair.0 ≡ record { automaton = entry_automaton players left_sheet; noise = left_noise })
+    → ((players : List Lasting) → strategy_at (strategies_of players contestants) pair.1 ≡ record { automaton = entry_automaton players right_sheet; noise = right_noise })
+    → AtMostTurns (most_advances (entry_automaton players left_sheet) (entry_automaton players right_sheet)) before now
+    → AtMostTurns (most_of (strategies_of players contestants) pair) before now
+pair_at_most_on players right contestants pair left_sheet right_sheet left_noise right_noise before now fits left_is right_is few =
+    pair_at_most (strategies_of players contestants) pair _ _ before now (left_is players) (right_is players) few
 
 -- before the first match
 pub none_played : KeepingLasts → (contestants : List Contestant) (game : Payoffs) (turns : ℕ) (pairs : List (ℕ × ℕ)) (left right : List PlayerState)
@@ -82,7 +94,6 @@ none_played keeping contestants game turns pairs left right = record {
   lines_are = record { places = refl; each = λ k d inside. absurd (omega (arith, inside)) };
   scores = λ k d inside. absurd (omega (arith, inside));
   asked = none_asked (strategies_of (lasting_of left) contestants) turns (record { left = turns_of left; right = turns_of right });
-  fell = none_fell (record { left = turns_of left; right = turns_of right });
 }
 
 pair_is : (p q : ℕ × ℕ) → p.0 ≡ q.0 → p.1 ≡ q.1 → p ≡ q
@@ -111,7 +122,7 @@ pub record IsPlayedOn (contestants : List Contestant) (game : Payoffs) (turns : 
   pub scores : HasScores line
   pub asked : PairAsked (strategies_of (lasting_of left) contestants) turns pair
       (record { left = turns_of left; right = turns_of right }) (record { left = turns_of left_new; right = turns_of right_new })
-  pub fell : NoTurnsFell (record { left = turns_of left; right = turns_of right }) (record { left = turns_of left_new; right = turns_of right_new })
+  pub fell : NoAdvancesFell (record { left = left; right = right }) (record { left = left_new; right = right_new })
 
 pub played_more : KeepingLasts → EntriesPlay → (contestants : List Contestant) (game : Payoffs) (turns k : ℕ) (pairs : List (ℕ × ℕ)) (lines more : List MatchLine) (line : MatchLine) (left right left_now right_now left_new right_new : List PlayerState)
     → SidesFit (lasting_of left) (lasting_of right) → k < length pairs → more ≡ lines ++ line ∷ []
@@ -132,9 +143,41 @@ played_more keeping law contestants game turns k pairs lines more line left righ
       right_kept = keeping.both _ _ _ so_far.right_kept on.right_kept;
       lines_are = lines_more strategies game turns k pairs lines line inside on.left_place on.right_place so_far.lines_are (subst P same on.line_is);
       scores = All-push HasScores lines line so_far.scores on.scores;
-      asked = asked_more strategies turns k pairs first before now inside so_far.asked (subst Q same on.asked) on.fell;
-      fell = fell_more _ _ _ so_far.fell on.fell;
+      asked = asked_more strategies turns k pairs first before now inside so_far.asked (subst Q same on.asked) on.fell.left on.fell.right;
     })
+
+-- the matches made no more advances than all take at most, where one was cut short
+pub stopped_at_most : EntriesPlay → (contestants : List Contestant) (game : Payoffs) (turns k : ℕ) (pairs : List (ℕ × ℕ)) (lines : List MatchLine) (left right left_now right_now left_new right_new : List PlayerState)
+    → SidesFit (lasting_of left) (lasting_of right) → k < length pairs → ArePlayed contestants game turns pairs k lines left right left_now right_now
+    → AtMostTurns (most_of (strategies_of (lasting_of left_now) contestants) (pair_at pairs k))
+    (record { left = turns_of left_now; right = turns_of right_now }) (record { left = turns_of left_new; right = turns_of right_new })
+    → AtMostTurns (most_for (strategies_of (lasting_of left) contestants) pairs)
+    (record { left = turns_of left; right = turns_of right }) (record { left = turns_of left_new; right = turns_of right_new })
+stopped_at_most law contestants game turns k pairs lines left right left_now right_now left_new right_new fits inside so_far here =
+    let same = strategies_kept law (lasting_of left) (lasting_of right) (lasting_of left_now) fits so_far.left_kept contestants in
+    let before : Turns = record { left = turns_of left_now; right = turns_of right_now } in
+    let now : Turns = record { left = turns_of left_new; right = turns_of right_new } in
+    let P : List Strategy → Type 0 = λ ss. AtMostTurns (most_of ss (pair_at pairs k)) before now in
+    most_stopped (strategies_of (lasting_of left) contestants) pairs k _ before now inside so_far.asked.most (subst P same here)
+
+-- what is told of a pair is told on the bench as it is now
+pub told_kept : EntriesPlay → (contestants : List Contestant) (both : Bool) (sure : List Bool) (k : ℕ) (pairs : List (ℕ × ℕ)) (left right left_now : List Lasting)
+    → SidesFit left right → KeepsPlugs left left_now → k < length pairs → All (IsPair (length contestants)) pairs
+    → AreTold (strategies_of left contestants) sure
+    → ((strategies : List Strategy) → AreTold strategies sure → IsPair (length strategies) (pair_at pairs k) → IsTrue both ↔ IsSurePair strategies (pair_at pairs k))
+    → IsTrue both ↔ IsSurePair (strategies_of left_now contestants) (pair_at pairs k)
+told_kept law contestants both sure k pairs left right left_now fits keeps inside are told tells =
+    let P : List Strategy → Type 0 = λ ss. IsTrue both ↔ IsSurePair ss (pair_at pairs k) in
+    let Q : ℕ → Type 0 = λ n. IsPair n (pair_at pairs k) in
+    let pair = subst Q (sym (length-map contestants (strategy_of left))) (are k (0, 0) inside) in
+    subst P (sym (strategies_kept law left right left_now fits keeps contestants)) (tells (strategies_of left contestants) told pair)
+
+-- a pair of contestants is one of what is told
+pub pair_told : (players right : List Lasting) (contestants : List Contestant) (sure : List Bool) (k : ℕ) (pairs : List (ℕ × ℕ)) → SidesFit players right → k < length pairs
+    → All (IsPair (length contestants)) pairs → AreTold (strategies_of players contestants) sure → IsPair (length sure) (pair_at pairs k)
+pair_told players right contestants sure k pairs fits inside are told =
+    let pair = are k (0, 0) inside in
+    record { ordered = pair.ordered; inside = omega (arith, pair.inside, told.whole, length-map contestants (strategy_of players)) }
 
 -- the turns of a pair are few on the bench as it is now
 pub few_turns_kept : EntriesPlay → (contestants : List Contestant) (turns k : ℕ) (pairs : List (ℕ × ℕ)) (left right left_now : List Lasting)
@@ -153,3 +196,10 @@ all_asked contestants game turns k pairs lines left right left_now right_now don
     let P : List (ℕ × ℕ) → Type 0 = λ ps. AreAsked (strategies_of (lasting_of left) contestants) turns ps
     (record { left = turns_of left; right = turns_of right }) (record { left = turns_of left_now; right = turns_of right_now }) in
     subst P (take_all k pairs done) played.asked
+
+pub all_at_most : (contestants : List Contestant) (game : Payoffs) (turns k : ℕ) (pairs : List (ℕ × ℕ)) (lines : List MatchLine) (left right left_now right_now : List PlayerState)
+    → length pairs ≤ k → ArePlayed contestants game turns pairs k lines left right left_now right_now
+    → AtMostTurns (most_for (strategies_of (lasting_of left) contestants) pairs)
+    (record { left = turns_of left; right = turns_of right }) (record { left = turns_of left_now; right = turns_of right_now })
+all_at_most contestants game turns k pairs lines left right left_now right_now done played =
+    (all_asked contestants game turns k pairs lines left right left_now right_now done played).most

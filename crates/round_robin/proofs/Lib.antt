@@ -6,6 +6,7 @@ pub mod Listing
 pub mod Paying
 pub mod Ranging
 pub mod Summing
+pub mod Telling
 pub mod TrueRanks
 pub mod TrueTotals
 pub mod TrueTournaments

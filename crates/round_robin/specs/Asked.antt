@@ -2,7 +2,7 @@
 use Rattle.std.specs.Prelude.{ℕ, ◌≡◌, ◌+◌, ◌*◌, ◌≤◌, ◌⊎◌, List, [], ◌∷◌, length, sum}
 use Rattle.history_model.specs.Automaton.{Automaton}
 use Rattle.history_model.specs.Noise.{FlipRate}
-use Rattle.player_core.specs.Counts.{IsFull, NoneFell, turns_of}
+use Rattle.player_core.specs.Counts.{IsFull, turns_of}
 use Rattle.player_core.specs.State.{BenchState}
 use Rattle.match_play.specs.Fresh.{IsFresh}
 use Rattle.product_chain.specs.Expected.{IsSureMatch}
@@ -37,11 +37,6 @@ pub record IsAsked (a : Automaton) (na : FlipRate) (b : Automaton) (nb : FlipRat
   pub played : IsSureMatch a na b nb → (j : ℕ) → IsFresh a b turns j → MadeTurns (2 * j) before now
   pub read : (IsSureMatch a na b nb → ⊥) → MadeTurns (4 * (length a.rows + length b.rows)) before now
   pub most : AtMostTurns (most_advances a b) before now
-
--- no count of either side has fallen
-pub record NoTurnsFell (before now : Turns) : Type 0 where
-  pub left : NoneFell before.left now.left
-  pub right : NoneFell before.right now.right
 
 -- a match asks for n advances: a sure one for two for each turn before a pair of rows comes again, any other for four for each row
 pub record AsksFor (a b : Strategy) (turns n : ℕ) : Type 0 where

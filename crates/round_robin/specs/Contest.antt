@@ -1,5 +1,5 @@
 -- The entries of a tournament and the pairs that meet.
-use Rattle.std.specs.Prelude.{ℕ, ◌≡◌, ◌⊎◌, ◌↔◌, ◌+◌, ◌^◌, ◌≤◌, ◌<◌, All, IsTrue, List, length, map, slice_index_or}
+use Rattle.std.specs.Prelude.{ℕ, ◌≡◌, ◌⊎◌, ◌↔◌, ◌+◌, ◌^◌, ◌≤◌, ◌<◌, All, Bool, IsTrue, List, false, length, map, slice_index_or}
 use Rattle.history_model.specs.Automaton.{Automaton, IsAutomaton, IsSure}
 use Rattle.history_model.specs.Noise.{FlipRate, IsFlipRate}
 use Rattle.player_core.specs.State.{Lasting, nobody}
@@ -29,6 +29,11 @@ no_strategy = record { automaton = nobody.automaton; noise = record { n = 0; e =
 abbrev pub strategy_at : List Strategy → ℕ → Strategy
 strategy_at strategies i = slice_index_or strategies i no_strategy
 
+-- of each strategy it is told whether it is sure
+pub record AreTold (strategies : List Strategy) (sure : List Bool) : Type 0 where
+  pub whole : length strategies ≤ length sure
+  pub each : (i : ℕ) → i < length strategies → IsTrue (slice_index_or sure i false) ↔ IsSureStrategy (strategy_at strategies i)
+
 -- what a contestant plays on a bench
 abbrev pub strategy_of : List Lasting → Contestant → Strategy
 strategy_of players contestant = record { automaton = entry_automaton players contestant.sheet.now; noise = contestant.noise.now }
@@ -37,10 +42,9 @@ strategy_of players contestant = record { automaton = entry_automaton players co
 abbrev pub strategies_of : List Lasting → List Contestant → List Strategy
 strategies_of players contestants = map (strategy_of players) contestants
 
--- the bench has a player for a contestant, which is marked as sure exactly where it is
-pub record IsContestant (players : List Lasting) (contestant : Contestant) : Type 0 where
-  pub known : IsKnown players contestant.sheet.now
-  pub sure : IsTrue contestant.sure ↔ IsSureStrategy (strategy_of players contestant)
+-- the bench has a player for a contestant
+abbrev pub IsContestant : List Lasting → Contestant → Type 0
+IsContestant players contestant = IsKnown players contestant.sheet.now
 
 -- 1 to 64 contestants
 pub record AreContestants (players : List Lasting) (contestants : List Contestant) : Type 0 where

@@ -8,7 +8,7 @@ use Rattle.match_play.specs.declared.line.MatchLine.{MatchLine}
 use Rattle.product_chain.specs.Expected.{IsSureMatch}
 use Rattle.round_robin.specs.declared.contestant.Contestant.{Contestant}
 use Rattle.round_robin.specs.declared.entrant.Entrant.{Entrant}
-use Rattle.round_robin.specs.Asked.{AreAsked, IsAsked, NoTurnsFell, PairAsked, bench_turns}
+use Rattle.round_robin.specs.Asked.{AreAsked, AtMostTurns, IsAsked, PairAsked, bench_turns, most_advances, most_for, most_of}
 use Rattle.round_robin.specs.Contest.{Strategy, strategies_of}
 use Rattle.round_robin.specs.Laws.{AreSides}
 use Rattle.round_robin.specs.Line.{IsLineOf}
@@ -34,9 +34,9 @@ abbrev pub IsAskedOn : BenchState → BenchState → Entrant → Entrant → ℕ
 IsAskedOn old new left right turns =
     IsAsked (plays_on old left) left.noise (plays_on old right) right.noise turns (bench_turns old) (bench_turns new)
 
--- no player of the bench has a count that fell
-abbrev pub NoneFellOn : BenchState → BenchState → Type 0
-NoneFellOn old new = NoTurnsFell (bench_turns old) (bench_turns new)
+-- no side of the bench made more advances than a match takes at most
+abbrev pub AtMostOn : BenchState → BenchState → Entrant → Entrant → Type 0
+AtMostOn old new left right = AtMostTurns (most_advances (plays_on old left) (plays_on old right)) (bench_turns old) (bench_turns new)
 
 -- ---- a tournament
 
@@ -51,3 +51,11 @@ PairAskedOn old new contestants turns pair = PairAsked (strategies_on old contes
 -- the players of the bench were asked for the matches of all pairs
 abbrev pub AreAskedOn : BenchState → BenchState → List Contestant → ℕ → List (ℕ × ℕ) → Type 0
 AreAskedOn old new contestants turns pairs = AreAsked (strategies_on old contestants) turns pairs (bench_turns old) (bench_turns new)
+
+-- no side of the bench made more advances than the match of a pair takes at most
+abbrev pub PairAtMostOn : BenchState → BenchState → List Contestant → ℕ × ℕ → Type 0
+PairAtMostOn old new contestants pair = AtMostTurns (most_of (strategies_on old contestants) pair) (bench_turns old) (bench_turns new)
+
+-- no side of the bench made more advances than the matches of all pairs take at most
+abbrev pub AtMostForOn : BenchState → BenchState → List Contestant → List (ℕ × ℕ) → Type 0
+AtMostForOn old new contestants pairs = AtMostTurns (most_for (strategies_on old contestants) pairs) (bench_turns old) (bench_turns new)

@@ -9,6 +9,7 @@ mod lines;
 mod pairing;
 mod ranking;
 mod scoring;
+mod sureness;
 mod tables;
 mod tournament;
 

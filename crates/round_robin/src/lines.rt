@@ -1,12 +1,12 @@
 //! The line of one match on a bench.
 ghost use Rattle.std.specs.Prelude.{◌≡◌, ◌*◌, ◌≤◌, ◌^◌, pos, ◌↔◌, false, IfOk, IsTrue};
 ghost use Rattle.player_core.specs.Fits.{Fits};
-ghost use Rattle.player_core.specs.Bench.{KeepsBench};
+ghost use Rattle.player_core.specs.Bench.{KeepsBench, NoAdvancesFell};
 ghost use Rattle.fixed_span.specs.Span.{point, score_units};
 ghost use Rattle.match_play.specs.Known.{IsKnownOn};
 ghost use Rattle.product_chain.specs.Expected.{IsPayable};
 ghost use Rattle.round_robin.specs.Laws.{IsInRange, IsScoreSpan};
-ghost use Rattle.round_robin.specs.OnBench.{AreSidesOn, IsAskedOn, IsLineOn, IsSureOn, NoneFellOn};
+ghost use Rattle.round_robin.specs.OnBench.{AreSidesOn, AtMostOn, IsAskedOn, IsLineOn, IsSureOn};
 
 use crate::Entrant;
 use fixed_span::Span;
@@ -58,7 +58,8 @@ fn played_line(
     ensures range { IfOk result (IsInRange turns) }
     ensures sides { IfOk result (λ _. AreSidesOn (⟦<Bench as Seen>⟧.view bench.old) left.now right.now) }
     ensures asked { IfOk result (λ _. IsAskedOn (⟦<Bench as Seen>⟧.view bench.old) (⟦<Bench as Seen>⟧.view bench.new) left.now right.now turns) }
-    ensures none_fell { IfOk result (λ _. NoneFellOn (⟦<Bench as Seen>⟧.view bench.old) (⟦<Bench as Seen>⟧.view bench.new)) }
+    ensures none_fell { IfOk result (λ _. NoAdvancesFell (⟦<Bench as Seen>⟧.view bench.old) (⟦<Bench as Seen>⟧.view bench.new)) }
+    ensures most { AtMostOn (⟦<Bench as Seen>⟧.view bench.old) (⟦<Bench as Seen>⟧.view bench.new) left.now right.now }
     ensures kept { KeepsBench (⟦<Bench as Seen>⟧.view bench.old) (⟦<Bench as Seen>⟧.view bench.new) }
 {
     let tally = play_sheets_long(trail, bench, left.sheet, right.sheet, turns)?;
@@ -96,7 +97,8 @@ fn mixed_line(
     ensures range { IfOk result (IsInRange turns) }
     ensures sides { IfOk result (λ _. AreSidesOn (⟦<Bench as Seen>⟧.view bench.old) left.now right.now) }
     ensures asked { IfOk result (λ _. IsAskedOn (⟦<Bench as Seen>⟧.view bench.old) (⟦<Bench as Seen>⟧.view bench.new) left.now right.now turns) }
-    ensures none_fell { IfOk result (λ _. NoneFellOn (⟦<Bench as Seen>⟧.view bench.old) (⟦<Bench as Seen>⟧.view bench.new)) }
+    ensures none_fell { IfOk result (λ _. NoAdvancesFell (⟦<Bench as Seen>⟧.view bench.old) (⟦<Bench as Seen>⟧.view bench.new)) }
+    ensures most { AtMostOn (⟦<Bench as Seen>⟧.view bench.old) (⟦<Bench as Seen>⟧.view bench.new) left.now right.now }
     ensures kept { KeepsBench (⟦<Bench as Seen>⟧.view bench.old) (⟦<Bench as Seen>⟧.view bench.new) }
 {
     let (left_grid, right_grid) = tabulate_sheets(alloc, bench, left.sheet, right.sheet)?;
@@ -128,8 +130,8 @@ fn mixed_line(
 /// `sure` tells whether neither sheet draws lots and no move is flipped. Such a match is followed
 /// until its pairs of rows come again, with the marks of the trail, and then counted by whole cycles; of
 /// any other, which has at most 10,000 turns, both players are read, and the line holds what both sides
-/// expect. Scores are from 0 to 10^30 units. All other players stay as they are, so the
-/// bench goes on fitting with the same plugs, also without memory.
+/// expect. Scores are from 0 to 10^30 units. No side makes more than two advances for each pair of rows
+/// and four for each row, and the bench goes on fitting with the same plugs, also without memory.
 ///
 /// # Errors
 ///
@@ -158,7 +160,8 @@ pub fn match_line(
     ensures range { IfOk result (IsInRange turns) }
     ensures sides { IfOk result (λ _. AreSidesOn (⟦<Bench as Seen>⟧.view bench.old) left.now right.now) }
     ensures asked { IfOk result (λ _. IsAskedOn (⟦<Bench as Seen>⟧.view bench.old) (⟦<Bench as Seen>⟧.view bench.new) left.now right.now turns) }
-    ensures none_fell { IfOk result (λ _. NoneFellOn (⟦<Bench as Seen>⟧.view bench.old) (⟦<Bench as Seen>⟧.view bench.new)) }
+    ensures none_fell { IfOk result (λ _. NoAdvancesFell (⟦<Bench as Seen>⟧.view bench.old) (⟦<Bench as Seen>⟧.view bench.new)) }
+    ensures most { AtMostOn (⟦<Bench as Seen>⟧.view bench.old) (⟦<Bench as Seen>⟧.view bench.new) left.now right.now }
     ensures kept { KeepsBench (⟦<Bench as Seen>⟧.view bench.old) (⟦<Bench as Seen>⟧.view bench.new) }
 {
     if sure {

@@ -4,7 +4,7 @@ ghost use Rattle.player_core.specs.State.{players_of};
 ghost use Rattle.player_core.specs.Fits.{Fits};
 ghost use Rattle.player_core.specs.Bench.{KeepsBench};
 ghost use Rattle.round_robin.specs.Contest.{AreContestants, AreFewTurns, ArePairs};
-ghost use Rattle.round_robin.specs.OnBench.{AreAskedOn, strategies_on};
+ghost use Rattle.round_robin.specs.OnBench.{AreAskedOn, AtMostForOn, strategies_on};
 ghost use Rattle.round_robin.specs.Totals.{AreLines, entries_of};
 
 use crate::pairing::pair_lines;
@@ -19,8 +19,9 @@ use std::alloc::Global;
 /// the contestants make of them. A pair has the places of two contestants, the smaller first; the pairs
 /// are in strictly ascending order. Each match is between the players that take the two sheets: a sure
 /// one, of at most 10^12 turns, is followed until a pair of rows comes again, and of any other, of at
-/// most 10,000 turns, both players are read. All other players stay as they are, so the bench goes on
-/// fitting with the same plugs, also without memory.
+/// most 10,000 turns, both players are read. Each contestant is asked once, before the first match,
+/// whether it is sure. No side makes more advances than its matches together take at most, and the bench
+/// goes on fitting with the same plugs, also without memory.
 ///
 /// # Errors
 ///
@@ -41,6 +42,7 @@ pub fn totals(
     ensures lines { IfOk result (λ totals. AreLines (strategies_on (⟦<Bench as Seen>⟧.view bench.old) contestants.now) game.now turns pairs.now totals.matches) }
     ensures entries { IfOk result (λ totals. totals.entries ≡ entries_of (length contestants.now) totals.matches) }
     ensures asked { IfOk result (λ _. AreAskedOn (⟦<Bench as Seen>⟧.view bench.old) (⟦<Bench as Seen>⟧.view bench.new) contestants.now turns pairs.now) }
+    ensures most { AtMostForOn (⟦<Bench as Seen>⟧.view bench.old) (⟦<Bench as Seen>⟧.view bench.new) contestants.now pairs.now }
     ensures kept { KeepsBench (⟦<Bench as Seen>⟧.view bench.old) (⟦<Bench as Seen>⟧.view bench.new) }
 {
     let mut trail = Trail::new(alloc, 0)?;

@@ -1,5 +1,6 @@
 use Rattle.std.proofs.Common.{◌∙◌}
-use Rattle.match_play.proofs.Moving.{inside_states, loaded_plays, is_automaton_too, is_sure_too, same_tally, side_kept, side_advanced, left_moved, right_moved, bench_followed}
+use Rattle.match_play.proofs.Moving.{inside_states, loaded_plays, is_automaton_too, is_sure_too, same_tally, side_kept, side_advanced, left_moved, right_moved, bench_followed, followed_at_most}
+use Rattle.match_play.proofs.Reading.{none_at_most}
 use Rattle.match_play.proofs.long_on_bench.play_sheets_long.Goals as goal
 
 pub play_long_at-requires-clause-sure_left : goal.play_long_at-requires-clause-sure_left
@@ -75,3 +76,12 @@ returns-clause-kept g c =
       left_kept = left_kept;
       right_kept = right_kept;
     }
+
+pub returns-in_err-make_room-clause-most : goal.returns-in_err-make_room-clause-most
+returns-in_err-make_room-clause-most g c = record {
+  left = none_at_most _ _ _ c.load.ensures.turns.left;
+  right = none_at_most _ _ _ c.load.ensures.turns.right;
+}
+
+pub returns-clause-most : goal.returns-clause-most
+returns-clause-most g c = followed_at_most _ _ _ _ _ (returns-clause-followed g c)

@@ -1,6 +1,6 @@
 use Rattle.std.proofs.Common.{◌*◌, pos, ◌∙◌, ap}
 use Rattle.fixed_span.specs.Span.{point, score_units}
-use Rattle.round_robin.proofs.Asking.{asked_by_playing}
+use Rattle.round_robin.proofs.Asking.{asked_by_playing, at_most_by_playing}
 use Rattle.round_robin.proofs.lines.played_line.Goals as goal
 
 pub returns-clause-line : goal.returns-clause-line
@@ -15,3 +15,9 @@ pub returns-clause-asked : goal.returns-clause-asked
 returns-clause-asked g c =
     let followed = c.in_ok-tally.ensures.followed in
     asked_by_playing _ _ _ _ c.args.turns followed.steps _ _ c.requires.sure followed.within followed.fresh followed.left_advanced followed.right_advanced
+
+pub returns-in_err-tally-clause-most : goal.returns-in_err-tally-clause-most
+returns-in_err-tally-clause-most g c = at_most_by_playing _ _ _ _ c.play_sheets_long.ensures.most
+
+pub returns-clause-most : goal.returns-clause-most
+returns-clause-most g c = at_most_by_playing _ _ _ _ c.play_sheets_long.ensures.most

@@ -1,4 +1,5 @@
 use Rattle.std.proofs.Common.{refl}
+use Rattle.player_core.proofs.Growing.{fell_through, none_fell_same}
 use Rattle.player_core.proofs.Sides.{lasting_through}
 use Rattle.player_core.proofs.bench.Bench.fits.Goals.{then-have_shape, else-have_shape}
 use Rattle.player_core.proofs.bench.Bench.fits.Goals as goal
@@ -9,4 +10,12 @@ returns-clause-lasting g c = record {
       (elim c.if-have_shape.branch [ then-have_shape w ↦ rw w.self-is w.all_twins-answer.ensures.left | else-have_shape w ↦ rw w.self-is refl ]);
   right = lasting_through _ _ _ c.restart.ensures.right
       (elim c.if-have_shape.branch [ then-have_shape w ↦ rw w.self-is w.all_twins-answer.ensures.right | else-have_shape w ↦ rw w.self-is refl ]);
+}
+
+pub returns-clause-returns : goal.returns-clause-returns
+returns-clause-returns g c = record {
+  left = fell_through _ _ _ c.restart.ensures.left
+      (elim c.if-have_shape.branch [ then-have_shape w ↦ rw w.self-is w.all_twins-answer.ensures.left_returns | else-have_shape w ↦ rw w.self-is (none_fell_same _) ]);
+  right = fell_through _ _ _ c.restart.ensures.right
+      (elim c.if-have_shape.branch [ then-have_shape w ↦ rw w.self-is w.all_twins-answer.ensures.right_returns | else-have_shape w ↦ rw w.self-is (none_fell_same _) ]);
 }

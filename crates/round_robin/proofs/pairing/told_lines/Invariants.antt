@@ -1,6 +1,6 @@
 use Rattle.std.proofs.Common.{map}
 use Rattle.round_robin.proofs.Contesting.{ArePlayed}
-use Rattle.round_robin.proofs.pairing.pair_lines.Given as goal
+use Rattle.round_robin.proofs.pairing.told_lines.Given as goal
 
 abbrev pub invariant-loop-pair : goal.invariant-loop-pair
 invariant-loop-pair g l =
