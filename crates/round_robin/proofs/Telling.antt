@@ -46,7 +46,7 @@ tells_more strategies sure answer k room so_far here =
     (λ i below.
     let other : i ≢ k = omega (arith, below) in
     let Q : Bool → Type 0 = λ b. IsTrue b ↔ IsSureStrategy (strategy_at strategies i) in
-    subst Q (sym (get_or-set_other sure i k answer false other)) (so_far i below))
+    subst Q (sym (get_or-set_other sure k i answer false other)) (so_far i below))
     (let Q : Bool → Type 0 = λ b. IsTrue b ↔ IsSureStrategy (strategy_at strategies k) in
     subst Q (sym (get_or-set_same sure k answer false room)) here)
 
