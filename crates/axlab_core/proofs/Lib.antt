@@ -1,14 +1,13 @@
 pub mod ByRule
-pub mod Completeness
+pub mod Completing
+pub mod Ending
 pub mod Contesting
 pub mod DrillLoops
 pub mod DrillReports
-pub mod Drilled
 pub mod Drilling
 pub mod Drills
 pub mod Entries
 pub mod Loading
-pub mod Noting
 pub mod Points
 pub mod Reports
 pub mod SentUpTo

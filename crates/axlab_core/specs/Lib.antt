@@ -2,9 +2,11 @@ pub mod Commands
 pub mod Complete
 pub mod Contestants
 pub mod Entrants
+pub mod Input
 pub mod Loading
 pub mod Machines
 pub mod Outcome
+pub mod Output
 pub mod Right
 pub mod RightDrill
 pub mod RightLine
@@ -16,3 +18,4 @@ pub mod Steps
 pub mod Texts
 pub mod WordList
 pub mod Words
+pub mod World

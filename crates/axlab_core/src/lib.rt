@@ -2,10 +2,13 @@
 //! the report.
 #![tactic(auto)]
 
+mod check_job;
 mod drill_job;
 mod load;
 mod matches;
+mod output;
 mod run;
+mod second;
 mod sending;
 mod status;
 mod telling;

@@ -1,37 +1,34 @@
 //! Runs a command.
-ghost use Rattle.std.specs.Prelude.{◌≡◌, ◌≢◌, ◌↔◌, ℕ, false, [], All, None, Ok, IfOk};
+ghost use Rattle.std.specs.Prelude.{◌≡◌, ◌≢◌, ◌↔◌, ℕ, false, Err};
 ghost use Rattle.player_core.specs.State.{lasting_of};
 ghost use Rattle.player_core.specs.Fits.{Fits};
-ghost use Rattle.player_core.specs.Counts.{turns_of};
 ghost use Rattle.player_core.specs.Bench.{notes_of};
 ghost use Rattle.lab_ports.specs.Causes.{Rose};
-ghost use Rattle.lab_ports.specs.declared.refusal.Refusal.{Refusal};
+ghost use Rattle.lab_ports.specs.Holding.{Grew, GrewByPart};
 ghost use Rattle.lab_ports.specs.declared.refusal.Refusal.TheVariants.{NotBuilt};
-ghost use Rattle.lab_file.specs.Notes.{AreNoted};
-ghost use Rattle.lab_file.specs.Limits.{limits_of};
-ghost use Rattle.axlab_core.specs.Complete.{HoldsLab, HoldsRefused, LacksFile, IsStatusOrMemory};
-ghost use Rattle.lab_report.specs.Text.{report_text};
-ghost use Rattle.lab_report.specs.Valid.{IsValid};
-ghost use Rattle.axlab_core.specs.Outcome.{OnAnswered, OnWriteFault, OnReadFault, OnNoMemory, IfRefused, IfDenied, IsSent, OnUnwritten, OnOther};
-ghost use Rattle.axlab_core.specs.Right.{IsRight, IsAsked, Wrote, WroteDrill, WrotePart, LeftOff, WhyRefused, WhyUnread, Told};
+ghost use Rattle.axlab_core.specs.Complete.{Holds, HoldsInput, IsStatusOrMemory};
+ghost use Rattle.axlab_core.specs.Input.{Comes, OfLab, OfWords, call_of};
+ghost use Rattle.axlab_core.specs.Loading.{Stop, Missing, Refuses, Denies};
+ghost use Rattle.axlab_core.specs.Outcome.{Ends, IsUnread, LeftOff, OnAnswered, OnWriteFault, OnReadFault, OnNoMemory, IfRefused, IfDenied, OnUnwritten, OnOther, Wrote, status_of};
+ghost use Rattle.axlab_core.specs.Right.{Serves, Told};
 ghost use Rattle.axlab_core.specs.Sides.{KeepsBench};
-ghost use Rattle.axlab_core.specs.Steps.{IsReadyEntry};
+ghost use Rattle.axlab_core.specs.Steps.{IsFit};
 ghost use Rattle.axlab_core.specs.Texts.{status_text};
 ghost use Rattle.axlab_core.specs.WordList.{word_list};
-ghost use Rattle.axlab_core.specs.Words.{form_of, lab_name, needs_lab};
+ghost use Rattle.axlab_core.specs.Words.{form_of, lab_name, second_name, needs_lab};
+ghost use Rattle.axlab_core.specs.World.{counts_of, world_of};
 ghost use Rattle.axlab_core.specs.declared.words.Form.TheVariants as forms;
 
+use crate::check_job::lab_check;
 use crate::drill_job::drill;
-use crate::load::{LoadError, load_lab};
+use crate::load::{LoadError, Loaded, load_input};
 use crate::matches::lab_match;
-use crate::sending::{SendError, send_report};
+use crate::output::{Hindrance, Output, deliver};
 use crate::telling::tell;
 use crate::tournament::lab_tournament;
 use crate::{Form, Status};
-use history_model::NoMemory;
-use lab_file::{Command, Lab};
+use lab_file::Command;
 use lab_ports::{Library, Refusal, Sink};
-use lab_report::Report;
 use player_core::laws::keeping_lasts;
 use player_core::{Bench, Player, PlugNote, Seats, Side};
 use std::alloc::Global;
@@ -44,27 +41,52 @@ fn lab_name(words: &Vec<String>) -> &str
     words[1].as_str()
 }
 
-// The report of a command's job, which the bench's players are asked for.
-fn command_report(
+// The name of the second file, where there is one.
+fn second_name(words: &Vec<String>) -> &str
+    ensures { result.now ≡ second_name (word_list words.now) }
+{
+    match words.get(2) {
+        Some(word) => word.as_str(),
+        None => "",
+    }
+}
+
+// The drill of a number, for which the bench's players are asked.
+fn serve_drill(alloc: Global, number: u64, bench: &mut Bench) -> Result<Output, Hindrance>
+    requires { Fits (lasting_of (⟦<Side as Seats>⟧.seats bench.old.left)) (lasting_of (⟦<Side as Seats>⟧.seats bench.old.right)) }
+    ensures served { Serves (forms.Drill number) (lasting_of (⟦<Side as Seats>⟧.seats bench.old.left)) (counts_of (⟦<Side as Seats>⟧.seats bench.old.left) (⟦<Side as Seats>⟧.seats bench.old.right)) (counts_of (⟦<Side as Seats>⟧.seats bench.new.left) (⟦<Side as Seats>⟧.seats bench.new.right)) OfWords result }
+    ensures kept { KeepsBench (lasting_of (⟦<Side as Seats>⟧.seats bench.old.left)) (lasting_of (⟦<Side as Seats>⟧.seats bench.old.right)) (lasting_of (⟦<Side as Seats>⟧.seats bench.new.left)) (lasting_of (⟦<Side as Seats>⟧.seats bench.new.right)) }
+{
+    match drill(alloc, number, bench) {
+        Ok(report) => Ok(Output::Report(report)),
+        Err(_) => Err(Hindrance::NoMemory),
+    }
+}
+
+// The work of a command with a lab, for which the bench's players are asked.
+fn serve(
     alloc: Global,
     command: Command,
-    lab: &Lab,
+    loaded: &Loaded,
     notes: &Vec<PlugNote>,
     bench: &mut Bench,
-) -> Result<Report, NoMemory>
+) -> Result<Output, Hindrance>
     requires fits { Fits (lasting_of (⟦<Side as Seats>⟧.seats bench.old.left)) (lasting_of (⟦<Side as Seats>⟧.seats bench.old.right)) }
     requires notes { notes.now.items ≡ notes_of (lasting_of (⟦<Side as Seats>⟧.seats bench.old.left)) }
-    requires kept { limits_of notes.now.items command lab.now ≡ Ok tt }
-    requires ready { All IsReadyEntry lab.now.entries }
-    requires noted { AreNoted notes.now.items lab.now.entries }
-    ensures right { IfOk result (λ report. IsRight command (lasting_of (⟦<Side as Seats>⟧.seats bench.old.left)) lab.now (report_text report)) }
-    ensures valid { IfOk result IsValid }
-    ensures asked { IfOk result (λ _. IsAsked command (lasting_of (⟦<Side as Seats>⟧.seats bench.old.left)) lab.now (record { left = turns_of (⟦<Side as Seats>⟧.seats bench.old.left); right = turns_of (⟦<Side as Seats>⟧.seats bench.old.right) }) (record { left = turns_of (⟦<Side as Seats>⟧.seats bench.new.left); right = turns_of (⟦<Side as Seats>⟧.seats bench.new.right) })) }
+    requires fit { IsFit command notes.now.items loaded.now.lab loaded.now.second }
+    ensures served { Serves (forms.Lab command) (lasting_of (⟦<Side as Seats>⟧.seats bench.old.left)) (counts_of (⟦<Side as Seats>⟧.seats bench.old.left) (⟦<Side as Seats>⟧.seats bench.old.right)) (counts_of (⟦<Side as Seats>⟧.seats bench.new.left) (⟦<Side as Seats>⟧.seats bench.new.right)) (OfLab loaded.now.lab loaded.now.second) result }
     ensures kept { KeepsBench (lasting_of (⟦<Side as Seats>⟧.seats bench.old.left)) (lasting_of (⟦<Side as Seats>⟧.seats bench.old.right)) (lasting_of (⟦<Side as Seats>⟧.seats bench.new.left)) (lasting_of (⟦<Side as Seats>⟧.seats bench.new.right)) }
 {
     match command {
-        Command::Match => lab_match(alloc, lab, notes, bench),
-        Command::Tournament => lab_tournament(alloc, lab, notes, bench),
+        Command::Match => match lab_match(alloc, &loaded.lab, notes, bench) {
+            Ok(report) => Ok(Output::Report(report)),
+            Err(_) => Err(Hindrance::NoMemory),
+        },
+        Command::Tournament => match lab_tournament(alloc, &loaded.lab, notes, bench) {
+            Ok(report) => Ok(Output::Report(report)),
+            Err(_) => Err(Hindrance::NoMemory),
+        },
+        Command::Check => lab_check(alloc, &loaded.lab, &loaded.second),
         // The limits refuse every other command.
         _ => unreachable!(),
     }
@@ -74,35 +96,31 @@ fn command_report(
 fn answer_lab<L: Library, O: Sink>(
     alloc: Global,
     command: Command,
-    name: &str,
+    words: &Vec<String>,
     notes: &Vec<PlugNote>,
     files: &mut L,
     out: &mut O,
     bench: &mut Bench,
 ) -> Status
+    requires form { form_of (word_list words.now) ≡ forms.Lab command }
     requires fits { Fits (lasting_of (⟦<Side as Seats>⟧.seats bench.old.left)) (lasting_of (⟦<Side as Seats>⟧.seats bench.old.right)) }
     requires notes { notes.now.items ≡ notes_of (lasting_of (⟦<Side as Seats>⟧.seats bench.old.left)) }
-    ensures answered { OnAnswered result (Wrote (forms.Lab command) (lasting_of (⟦<Side as Seats>⟧.seats bench.old.left)) (record { left = turns_of (⟦<Side as Seats>⟧.seats bench.old.left); right = turns_of (⟦<Side as Seats>⟧.seats bench.old.right) }) (record { left = turns_of (⟦<Side as Seats>⟧.seats bench.new.left); right = turns_of (⟦<Side as Seats>⟧.seats bench.new.right) }) name.now (L.holding files.old) (O.taken out.old) (O.taken out.new)) }
-    ensures write_fault { OnWriteFault result (WrotePart (forms.Lab command) (lasting_of (⟦<Side as Seats>⟧.seats bench.old.left)) name.now (L.holding files.old) (O.taken out.old) (O.taken out.new)) }
-    ensures write_cause { OnWriteFault result (Rose (O.faults out.old) (O.faults out.new)) }
-    ensures read_fault { OnReadFault result (WhyUnread (forms.Lab command) (lasting_of (⟦<Side as Seats>⟧.seats bench.old.left)) name.now (L.holding files.old) (L.faults files.old) (L.faults files.new)) }
-    ensures refused { IfRefused result (WhyRefused (forms.Lab command) (lasting_of (⟦<Side as Seats>⟧.seats bench.old.left)) name.now (L.holding files.old)) }
-    ensures denied { IfDenied result (λ _. ⊥) }
-    ensures no_usage { result ≢ Status.Usage }
-    ensures left_off { OnNoMemory result (LeftOff (forms.Lab command) (lasting_of (⟦<Side as Seats>⟧.seats bench.old.left)) name.now (L.holding files.old) (O.taken out.old) (O.taken out.new)) }
-    ensures untouched { OnUnwritten result (O.taken out.new ≡ O.taken out.old) }
+    ensures ends { Ends (call_of (word_list words.now) (lasting_of (⟦<Side as Seats>⟧.seats bench.old.left)) (L.holding files.old)) (world_of (⟦<Side as Seats>⟧.seats bench.old.left) (⟦<Side as Seats>⟧.seats bench.old.right) (L.faults files.old) (O.taken out.old) (O.faults out.old)) (world_of (⟦<Side as Seats>⟧.seats bench.new.left) (⟦<Side as Seats>⟧.seats bench.new.right) (L.faults files.new) (O.taken out.new) (O.faults out.new)) result }
     ensures kept { KeepsBench (lasting_of (⟦<Side as Seats>⟧.seats bench.old.left)) (lasting_of (⟦<Side as Seats>⟧.seats bench.old.right)) (lasting_of (⟦<Side as Seats>⟧.seats bench.new.left)) (lasting_of (⟦<Side as Seats>⟧.seats bench.new.right)) }
 {
     keeping_lasts();
-    match load_lab(alloc, command, name, notes, files) {
-        Ok(lab) => match command_report(alloc, command, &lab, notes, bench) {
-            Ok(report) => match send_report(alloc, &report, out) {
-                Ok(()) => Status::Answered,
-                Err(SendError::Failed) => Status::WriteFault,
-                Err(SendError::NoMemory) => Status::NoMemory,
-            },
-            Err(_) => Status::NoMemory,
-        },
+    match load_input(
+        alloc,
+        command,
+        lab_name(words),
+        second_name(words),
+        notes,
+        files,
+    ) {
+        Ok(loaded) => {
+            let served = serve(alloc, command, &loaded, notes, bench);
+            deliver(alloc, served, out)
+        }
         Err(LoadError::Refused(refusal)) => Status::Refused(refusal),
         Err(LoadError::Unread) => Status::ReadFault,
         Err(LoadError::NoMemory) => Status::NoMemory,
@@ -113,52 +131,24 @@ fn answer_lab<L: Library, O: Sink>(
 fn run_lab<L: Library, O: Sink>(
     alloc: Global,
     command: Command,
-    name: &str,
+    words: &Vec<String>,
     files: &mut L,
     out: &mut O,
     bench: &mut Bench,
 ) -> Status
-    requires { Fits (lasting_of (⟦<Side as Seats>⟧.seats bench.old.left)) (lasting_of (⟦<Side as Seats>⟧.seats bench.old.right)) }
-    ensures answered { OnAnswered result (Wrote (forms.Lab command) (lasting_of (⟦<Side as Seats>⟧.seats bench.old.left)) (record { left = turns_of (⟦<Side as Seats>⟧.seats bench.old.left); right = turns_of (⟦<Side as Seats>⟧.seats bench.old.right) }) (record { left = turns_of (⟦<Side as Seats>⟧.seats bench.new.left); right = turns_of (⟦<Side as Seats>⟧.seats bench.new.right) }) name.now (L.holding files.old) (O.taken out.old) (O.taken out.new)) }
-    ensures write_fault { OnWriteFault result (WrotePart (forms.Lab command) (lasting_of (⟦<Side as Seats>⟧.seats bench.old.left)) name.now (L.holding files.old) (O.taken out.old) (O.taken out.new)) }
-    ensures write_cause { OnWriteFault result (Rose (O.faults out.old) (O.faults out.new)) }
-    ensures read_fault { OnReadFault result (WhyUnread (forms.Lab command) (lasting_of (⟦<Side as Seats>⟧.seats bench.old.left)) name.now (L.holding files.old) (L.faults files.old) (L.faults files.new)) }
-    ensures refused { IfRefused result (WhyRefused (forms.Lab command) (lasting_of (⟦<Side as Seats>⟧.seats bench.old.left)) name.now (L.holding files.old)) }
-    ensures denied { IfDenied result (λ _. ⊥) }
-    ensures no_usage { result ≢ Status.Usage }
-    ensures left_off { OnNoMemory result (LeftOff (forms.Lab command) (lasting_of (⟦<Side as Seats>⟧.seats bench.old.left)) name.now (L.holding files.old) (O.taken out.old) (O.taken out.new)) }
-    ensures untouched { OnUnwritten result (O.taken out.new ≡ O.taken out.old) }
+    requires form { form_of (word_list words.now) ≡ forms.Lab command }
+    requires fits { Fits (lasting_of (⟦<Side as Seats>⟧.seats bench.old.left)) (lasting_of (⟦<Side as Seats>⟧.seats bench.old.right)) }
+    ensures ends { Ends (call_of (word_list words.now) (lasting_of (⟦<Side as Seats>⟧.seats bench.old.left)) (L.holding files.old)) (world_of (⟦<Side as Seats>⟧.seats bench.old.left) (⟦<Side as Seats>⟧.seats bench.old.right) (L.faults files.old) (O.taken out.old) (O.faults out.old)) (world_of (⟦<Side as Seats>⟧.seats bench.new.left) (⟦<Side as Seats>⟧.seats bench.new.right) (L.faults files.new) (O.taken out.new) (O.faults out.new)) result }
     ensures kept { KeepsBench (lasting_of (⟦<Side as Seats>⟧.seats bench.old.left)) (lasting_of (⟦<Side as Seats>⟧.seats bench.old.right)) (lasting_of (⟦<Side as Seats>⟧.seats bench.new.left)) (lasting_of (⟦<Side as Seats>⟧.seats bench.new.right)) }
 {
     keeping_lasts();
     match bench.notes(alloc) {
-        Ok(notes) => answer_lab(alloc, command, name, &notes, files, out, bench),
+        Ok(notes) => answer_lab(alloc, command, words, &notes, files, out, bench),
         Err(_) => Status::NoMemory,
     }
 }
 
-// A drill of a number.
-fn run_drill<O: Sink>(alloc: Global, number: u64, out: &mut O, bench: &mut Bench) -> Status
-    requires { Fits (lasting_of (⟦<Side as Seats>⟧.seats bench.old.left)) (lasting_of (⟦<Side as Seats>⟧.seats bench.old.right)) }
-    ensures answered { OnAnswered result (WroteDrill number (lasting_of (⟦<Side as Seats>⟧.seats bench.old.left)) (record { left = turns_of (⟦<Side as Seats>⟧.seats bench.old.left); right = turns_of (⟦<Side as Seats>⟧.seats bench.old.right) }) (record { left = turns_of (⟦<Side as Seats>⟧.seats bench.new.left); right = turns_of (⟦<Side as Seats>⟧.seats bench.new.right) }) (O.taken out.old) (O.taken out.new)) }
-    ensures write_fault { OnWriteFault result (WrotePart (forms.Drill number) (lasting_of (⟦<Side as Seats>⟧.seats bench.old.left)) [] None (O.taken out.old) (O.taken out.new)) }
-    ensures write_cause { OnWriteFault result (Rose (O.faults out.old) (O.faults out.new)) }
-    ensures left_off { OnNoMemory result (LeftOff (forms.Drill number) (lasting_of (⟦<Side as Seats>⟧.seats bench.old.left)) [] None (O.taken out.old) (O.taken out.new)) }
-    ensures no_others { IsSent result }
-    ensures kept { KeepsBench (lasting_of (⟦<Side as Seats>⟧.seats bench.old.left)) (lasting_of (⟦<Side as Seats>⟧.seats bench.old.right)) (lasting_of (⟦<Side as Seats>⟧.seats bench.new.left)) (lasting_of (⟦<Side as Seats>⟧.seats bench.new.right)) }
-{
-    keeping_lasts();
-    match drill(alloc, number, bench) {
-        Ok(report) => match send_report(alloc, &report, out) {
-            Ok(()) => Status::Answered,
-            Err(SendError::Failed) => Status::WriteFault,
-            Err(SendError::NoMemory) => Status::NoMemory,
-        },
-        Err(_) => Status::NoMemory,
-    }
-}
-
-// Runs the command of the words, and writes its report.
+// Runs the command of the words, and writes what it gives.
 fn run<L: Library, O: Sink>(
     alloc: Global,
     words: &Vec<String>,
@@ -167,25 +157,19 @@ fn run<L: Library, O: Sink>(
     bench: &mut Bench,
 ) -> Status
     requires { Fits (lasting_of (⟦<Side as Seats>⟧.seats bench.old.left)) (lasting_of (⟦<Side as Seats>⟧.seats bench.old.right)) }
-    ensures usage { (result ≡ Status.Usage) ↔ (form_of (word_list words.now) ≡ forms.Faulty) }
-    ensures unbuilt { form_of (word_list words.now) ≡ forms.Unbuilt → result ≡ Status.Refused NotBuilt }
+    ensures ends { Ends (call_of (word_list words.now) (lasting_of (⟦<Side as Seats>⟧.seats bench.old.left)) (L.holding files.old)) (world_of (⟦<Side as Seats>⟧.seats bench.old.left) (⟦<Side as Seats>⟧.seats bench.old.right) (L.faults files.old) (O.taken out.old) (O.faults out.old)) (world_of (⟦<Side as Seats>⟧.seats bench.new.left) (⟦<Side as Seats>⟧.seats bench.new.right) (L.faults files.new) (O.taken out.new) (O.faults out.new)) result }
     ensures unread { needs_lab (form_of (word_list words.now)) ≡ false → files.new ≡ files.old }
-    ensures answered { OnAnswered result (Wrote (form_of (word_list words.now)) (lasting_of (⟦<Side as Seats>⟧.seats bench.old.left)) (record { left = turns_of (⟦<Side as Seats>⟧.seats bench.old.left); right = turns_of (⟦<Side as Seats>⟧.seats bench.old.right) }) (record { left = turns_of (⟦<Side as Seats>⟧.seats bench.new.left); right = turns_of (⟦<Side as Seats>⟧.seats bench.new.right) }) (lab_name (word_list words.now)) (L.holding files.old) (O.taken out.old) (O.taken out.new)) }
-    ensures write_fault { OnWriteFault result (WrotePart (form_of (word_list words.now)) (lasting_of (⟦<Side as Seats>⟧.seats bench.old.left)) (lab_name (word_list words.now)) (L.holding files.old) (O.taken out.old) (O.taken out.new)) }
-    ensures write_cause { OnWriteFault result (Rose (O.faults out.old) (O.faults out.new)) }
-    ensures read_fault { OnReadFault result (WhyUnread (form_of (word_list words.now)) (lasting_of (⟦<Side as Seats>⟧.seats bench.old.left)) (lab_name (word_list words.now)) (L.holding files.old) (L.faults files.old) (L.faults files.new)) }
-    ensures refused { IfRefused result (WhyRefused (form_of (word_list words.now)) (lasting_of (⟦<Side as Seats>⟧.seats bench.old.left)) (lab_name (word_list words.now)) (L.holding files.old)) }
-    ensures denied { IfDenied result (λ _. ⊥) }
-    ensures left_off { OnNoMemory result (LeftOff (form_of (word_list words.now)) (lasting_of (⟦<Side as Seats>⟧.seats bench.old.left)) (lab_name (word_list words.now)) (L.holding files.old) (O.taken out.old) (O.taken out.new)) }
-    ensures untouched { OnUnwritten result (O.taken out.new ≡ O.taken out.old) }
     ensures kept { KeepsBench (lasting_of (⟦<Side as Seats>⟧.seats bench.old.left)) (lasting_of (⟦<Side as Seats>⟧.seats bench.old.right)) (lasting_of (⟦<Side as Seats>⟧.seats bench.new.left)) (lasting_of (⟦<Side as Seats>⟧.seats bench.new.right)) }
 {
     keeping_lasts();
     match Form::of(words) {
         Form::Faulty => Status::Usage,
         Form::Unbuilt => Status::Refused(Refusal::NotBuilt),
-        Form::Drill(number) => run_drill(alloc, number, out, bench),
-        Form::Lab(command) => run_lab(alloc, command, lab_name(words), files, out, bench),
+        Form::Drill(number) => {
+            let served = serve_drill(alloc, number, bench);
+            deliver(alloc, served, out)
+        }
+        Form::Lab(command) => run_lab(alloc, command, words, files, out, bench),
     }
 }
 
@@ -202,31 +186,31 @@ pub fn axlab<L: Library, O: Sink, E: Sink>(
 ) -> Status
     requires { Fits (lasting_of (⟦<Side as Seats>⟧.seats bench.old.left)) (lasting_of (⟦<Side as Seats>⟧.seats bench.old.right)) }
     // An answer is right, and the players were asked for it.
-    ensures answered { OnAnswered result (Wrote (form_of (word_list words.now)) (lasting_of (⟦<Side as Seats>⟧.seats bench.old.left)) (record { left = turns_of (⟦<Side as Seats>⟧.seats bench.old.left); right = turns_of (⟦<Side as Seats>⟧.seats bench.old.right) }) (record { left = turns_of (⟦<Side as Seats>⟧.seats bench.new.left); right = turns_of (⟦<Side as Seats>⟧.seats bench.new.right) }) (lab_name (word_list words.now)) (L.holding files.old) (O.taken out.old) (O.taken out.new)) }
+    ensures answered { OnAnswered result (Wrote (call_of (word_list words.now) (lasting_of (⟦<Side as Seats>⟧.seats bench.old.left)) (L.holding files.old)) (world_of (⟦<Side as Seats>⟧.seats bench.old.left) (⟦<Side as Seats>⟧.seats bench.old.right) (L.faults files.old) (O.taken out.old) (O.faults out.old)) (world_of (⟦<Side as Seats>⟧.seats bench.new.left) (⟦<Side as Seats>⟧.seats bench.new.right) (L.faults files.new) (O.taken out.new) (O.faults out.new)) Grew) }
 
     // Each other status has its cause.
     ensures usage { (result ≡ Status.Usage) ↔ (form_of (word_list words.now) ≡ forms.Faulty) }
     ensures unbuilt { form_of (word_list words.now) ≡ forms.Unbuilt → result ≡ Status.Refused NotBuilt }
     ensures unread { needs_lab (form_of (word_list words.now)) ≡ false → files.new ≡ files.old }
-    ensures read_fault { OnReadFault result (WhyUnread (form_of (word_list words.now)) (lasting_of (⟦<Side as Seats>⟧.seats bench.old.left)) (lab_name (word_list words.now)) (L.holding files.old) (L.faults files.old) (L.faults files.new)) }
-    ensures refused { IfRefused result (WhyRefused (form_of (word_list words.now)) (lasting_of (⟦<Side as Seats>⟧.seats bench.old.left)) (lab_name (word_list words.now)) (L.holding files.old)) }
+    ensures read_fault { OnReadFault result (IsUnread (call_of (word_list words.now) (lasting_of (⟦<Side as Seats>⟧.seats bench.old.left)) (L.holding files.old)) (world_of (⟦<Side as Seats>⟧.seats bench.old.left) (⟦<Side as Seats>⟧.seats bench.old.right) (L.faults files.old) (O.taken out.old) (O.faults out.old)) (world_of (⟦<Side as Seats>⟧.seats bench.new.left) (⟦<Side as Seats>⟧.seats bench.new.right) (L.faults files.new) (O.taken out.new) (O.faults out.new))) }
+    ensures refused { IfRefused result (λ refusal. Comes (call_of (word_list words.now) (lasting_of (⟦<Side as Seats>⟧.seats bench.old.left)) (L.holding files.old)) (Err (Refuses refusal))) }
+    ensures denied { IfDenied result (λ line. Comes (call_of (word_list words.now) (lasting_of (⟦<Side as Seats>⟧.seats bench.old.left)) (L.holding files.old)) (Err (Denies line))) }
     ensures write_fault { OnWriteFault result (Rose (O.faults out.old) (O.faults out.new)) }
-    ensures denied { IfDenied result (λ _. ⊥) }
 
-    // What is held must be answered, refused or missed so, unless memory or a port fails.
-    ensures complete { HoldsLab (form_of (word_list words.now)) (lasting_of (⟦<Side as Seats>⟧.seats bench.old.left)) (lab_name (word_list words.now)) (L.holding files.old)
+    // What is held must be answered, or stopped so, unless memory or a port fails.
+    ensures complete { HoldsInput (call_of (word_list words.now) (lasting_of (⟦<Side as Seats>⟧.seats bench.old.left)) (L.holding files.old))
         → ¬ Rose (L.faults files.old) (L.faults files.new) → ¬ Rose (O.faults out.old) (O.faults out.new) → IsStatusOrMemory Status.Answered result }
-    ensures refuses { (refusal : Refusal) → HoldsRefused (form_of (word_list words.now)) (lasting_of (⟦<Side as Seats>⟧.seats bench.old.left)) (lab_name (word_list words.now)) (L.holding files.old) refusal
-        → ¬ Rose (L.faults files.old) (L.faults files.new) → IsStatusOrMemory (Status.Refused refusal) result }
+    ensures stops { (stop : Stop) → Holds (call_of (word_list words.now) (lasting_of (⟦<Side as Seats>⟧.seats bench.old.left)) (L.holding files.old)) (Err stop)
+        → ¬ Rose (L.faults files.old) (L.faults files.new) → IsStatusOrMemory (status_of stop) result }
     ensures drills { (number : ℕ) → form_of (word_list words.now) ≡ forms.Drill number → ¬ Rose (O.faults out.old) (O.faults out.new) → IsStatusOrMemory Status.Answered result }
-    ensures misses { LacksFile (form_of (word_list words.now)) (lasting_of (⟦<Side as Seats>⟧.seats bench.old.left)) (lab_name (word_list words.now)) (L.holding files.old) → IsStatusOrMemory Status.ReadFault result }
+    ensures misses { Holds (call_of (word_list words.now) (lasting_of (⟦<Side as Seats>⟧.seats bench.old.left)) (L.holding files.old)) (Err Missing) → IsStatusOrMemory Status.ReadFault result }
 
     // The bench goes on fitting, with the same plugs and plug automata.
     ensures kept { KeepsBench (lasting_of (⟦<Side as Seats>⟧.seats bench.old.left)) (lasting_of (⟦<Side as Seats>⟧.seats bench.old.right)) (lasting_of (⟦<Side as Seats>⟧.seats bench.new.left)) (lasting_of (⟦<Side as Seats>⟧.seats bench.new.right)) }
 
     // What the sinks took.
-    ensures part { OnWriteFault result (WrotePart (form_of (word_list words.now)) (lasting_of (⟦<Side as Seats>⟧.seats bench.old.left)) (lab_name (word_list words.now)) (L.holding files.old) (O.taken out.old) (O.taken out.new)) }
-    ensures left_off { OnNoMemory result (LeftOff (form_of (word_list words.now)) (lasting_of (⟦<Side as Seats>⟧.seats bench.old.left)) (lab_name (word_list words.now)) (L.holding files.old) (O.taken out.old) (O.taken out.new)) }
+    ensures part { OnWriteFault result (Wrote (call_of (word_list words.now) (lasting_of (⟦<Side as Seats>⟧.seats bench.old.left)) (L.holding files.old)) (world_of (⟦<Side as Seats>⟧.seats bench.old.left) (⟦<Side as Seats>⟧.seats bench.old.right) (L.faults files.old) (O.taken out.old) (O.faults out.old)) (world_of (⟦<Side as Seats>⟧.seats bench.new.left) (⟦<Side as Seats>⟧.seats bench.new.right) (L.faults files.new) (O.taken out.new) (O.faults out.new)) GrewByPart) }
+    ensures left_off { OnNoMemory result (LeftOff (call_of (word_list words.now) (lasting_of (⟦<Side as Seats>⟧.seats bench.old.left)) (L.holding files.old)) (world_of (⟦<Side as Seats>⟧.seats bench.old.left) (⟦<Side as Seats>⟧.seats bench.old.right) (L.faults files.old) (O.taken out.old) (O.faults out.old)) (world_of (⟦<Side as Seats>⟧.seats bench.new.left) (⟦<Side as Seats>⟧.seats bench.new.right) (L.faults files.new) (O.taken out.new) (O.faults out.new))) }
     ensures untouched { OnUnwritten result (O.taken out.new ≡ O.taken out.old) }
     ensures silent { OnAnswered result (E.taken err.new ≡ E.taken err.old) }
     ensures told { OnOther result (Told (status_text result) (E.taken err.old) (E.taken err.new) (E.faults err.old) (E.faults err.new)) }
