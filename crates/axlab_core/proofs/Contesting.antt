@@ -8,7 +8,7 @@ use Rattle.lab_ports.specs.declared.refusal.Refusal.{Refusal}
 use Rattle.lab_ports.specs.declared.refusal.Refusal.TheVariants.{TooManyTurns, TooMuchWork}
 use Rattle.player_core.specs.declared.bench.PlugNote.{PlugNote}
 use Rattle.player_core.specs.State.{Lasting}
-use Rattle.player_core.specs.Fits.{Fits}
+use Rattle.player_core.specs.Fits.{SidesFit}
 use Rattle.player_core.specs.Bench.{notes_of}
 use Rattle.round_robin.specs.declared.contestant.Contestant.{Contestant}
 use Rattle.history_model.specs.Game.{Payoffs}
@@ -81,7 +81,7 @@ few_turns_by : (sure : Bool) (left right turns : ℕ) → sure ≡ false → lim
 few_turns_by true left right turns unsure kept = absurd (cc)
 few_turns_by false left right turns unsure kept = ltb-false 10000 turns (not_long (nat_lt 10000 turns) (nat_lt 30000000 (left * right * turns)) kept)
 
-module _ (tell : NotesTell) (players on_the_right : List Lasting) (fits : Fits players on_the_right) (notes : List PlugNote) (lab : LabData) (here : notes ≡ notes_of players) (noted : AreNoted notes lab.entries) (contestants : List Contestant) (first : AreFirst notes lab (length lab.entries) contestants) where
+module _ (tell : NotesTell) (players on_the_right : List Lasting) (fits : SidesFit players on_the_right) (notes : List PlugNote) (lab : LabData) (here : notes ≡ notes_of players) (noted : AreNoted notes lab.entries) (contestants : List Contestant) (first : AreFirst notes lab (length lab.entries) contestants) where
   within_lab : (place : ℕ) → place < length contestants → place < length lab.entries
   within_lab place inside = omega (arith, inside, first.count_is)
 
@@ -165,7 +165,7 @@ names_differ entries names are differ i j d before inside same =
 pub are_pairs_of : (law : TournamentsAscend) (job : TournamentJob) (count many : ℕ) (pairs : List (ℕ × ℕ)) → many ≡ count → pairs ≡ tournament_pairs job count → ArePairs many pairs
 are_pairs_of law job count many pairs as_many same = rw (as_many, same) (are_pairs law job count)
 
-pub few_turns_of : (players on_the_right : List Lasting) → Fits players on_the_right → (contestants : List Contestant) (turns : ℕ) (pairs others : List (ℕ × ℕ)) → pairs ≡ others
+pub few_turns_of : (players on_the_right : List Lasting) → SidesFit players on_the_right → (contestants : List Contestant) (turns : ℕ) (pairs others : List (ℕ × ℕ)) → pairs ≡ others
     → All (AreFewTurns (strategies_of players contestants) turns) others → All (AreFewTurns (strategies_of players contestants) turns) pairs
 few_turns_of players on_the_right fits contestants turns pairs others same few =
     let P : List (ℕ × ℕ) → Type 0 = λ ps. All (AreFewTurns (strategies_of players contestants) turns) ps in

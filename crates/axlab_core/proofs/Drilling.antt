@@ -11,7 +11,7 @@ use Rattle.player_core.specs.AutomatonOf.{automaton_by, machine_automaton, machi
 use Rattle.player_core.specs.State.{Lasting}
 use Rattle.player_core.specs.Sheet.{SheetData, states}
 use Rattle.player_core.specs.Entry.{entry_automaton, plug_automaton}
-use Rattle.player_core.specs.Fits.{Fits, NoPlugNamed}
+use Rattle.player_core.specs.Fits.{SidesFit, NoPlugNamed}
 use Rattle.match_play.specs.declared.line.MatchLine.{MatchLine}
 use Rattle.round_robin.specs.declared.contestant.Contestant.{Contestant}
 use Rattle.round_robin.specs.Contest.{Strategy, IsContestant, AreContestants, IsPair, ArePairs, IsSureStrategy, IsSurePair, AreFewTurns, no_strategy, strategy_at, strategy_of, strategies_of}
@@ -118,7 +118,7 @@ pub record ArePlayed (sheets : List SheetData) (contestants : List Contestant) (
   pub still : AreStill sheets contestants
   pub pairs_are : pairs ≡ tournament_pairs drill_job (length sheets)
 
-module _ (players right : List Lasting) (fits : Fits players right) (sheets : List SheetData) (contestants : List Contestant) (pairs : List (ℕ × ℕ)) (p : ArePlayed sheets contestants pairs) where
+module _ (players right : List Lasting) (fits : SidesFit players right) (sheets : List SheetData) (contestants : List Contestant) (pairs : List (ℕ × ℕ)) (p : ArePlayed sheets contestants pairs) where
   pub many_contestants : length contestants ≡ 64
   many_contestants = sym (length-map contestants entrant_of) ∙ ap length p.still.entrants ∙ length-map sheets still ∙ p.machines.many
 

@@ -10,7 +10,7 @@ use Rattle.history_model.specs.Game.{IsGame}
 use Rattle.player_core.specs.declared.kind.Kind.TheVariants.{MemoryOne, Machine, Lookup}
 use Rattle.player_core.specs.State.{Lasting}
 use Rattle.player_core.specs.Sheet.{SheetData}
-use Rattle.player_core.specs.Fits.{Fits}
+use Rattle.player_core.specs.Fits.{SidesFit}
 use Rattle.player_core.specs.Rule.{FollowsRule}
 use Rattle.fixed_span.specs.Span.{Ends, Fraction, Holds, point, score_units}
 use Rattle.match_play.specs.declared.line.MatchLine.{MatchLine}
@@ -127,7 +127,7 @@ module _ (lines_hold : LinesHold) (players : List Lasting) (sheets : List SheetD
   rank_there : (i : ℕ) → i < 64 → rank_of (totals_of 64 lines) i ≡ At (1 + greater_among (others (totals_of 64 lines) i) (span_at (totals_of 64 lines) i))
   rank_there i inside = rank_known (totals_of 64 lines) i all_points (subst IsPoint (sym (span_there i inside)) (total_point i))
 
-  module _ (vectors : FollowsRule MemoryOne) (machines : FollowsRule Machine) (tables : FollowsRule Lookup) (decide : WeightsDecide) (on_the_right : List Lasting) (fits : Fits players on_the_right)
+  module _ (vectors : FollowsRule MemoryOne) (machines : FollowsRule Machine) (tables : FollowsRule Lookup) (decide : WeightsDecide) (on_the_right : List Lasting) (fits : SidesFit players on_the_right)
       (true_of : TournamentsAreTrue) where
     truth : IsTrueTournament (machine_strategies players sheets) drill_game drill_job.turns drill_pairs lines
     truth =
@@ -138,12 +138,12 @@ module _ (lines_hold : LinesHold) (players : List Lasting) (sheets : List SheetD
     expects_there i j left_inside right_inside =
         let s = (no_entrant).sheet in
         let F : Strategy → Strategy → Fraction = λ a b. expected_score (player a.automaton) a.noise (player b.automaton) b.noise drill_game 0 drill_job.turns in
-        let G : Entrant → Entrant → Fraction = λ a b. expects_in players drill_game drill_job.turns a b in
+        let G : Entrant → Entrant → Fraction = λ a b. expects_in players drill_game 0 drill_job.turns a b in
         let own = still (get_or sheets i s) in
         let other = still (get_or sheets j s) in
         ap (λ a. F a (strategy_at (machine_strategies players sheets) j)) (strategy_is i s left_inside)
         ∙ ap (F (strategy_of_entrant players own)) (strategy_is j s right_inside)
-        ∙ expects_alike vectors machines tables decide players on_the_right fits drill_game drill_job.turns own other
+        ∙ expects_alike vectors machines tables decide players on_the_right fits drill_game 0 drill_job.turns own other
         (are.valid i s (omega (arith, left_inside, are.many))) (are.valid j s (omega (arith, right_inside, are.many)))
         ∙ sym (ap (λ a. G a (entrant_at (map still sheets) j)) (entrant_is i s left_inside) ∙ ap (G own) (entrant_is j s right_inside))
 

@@ -4,7 +4,7 @@ use Rattle.history_model.specs.Automaton.{IsSure}
 use Rattle.player_core.specs.declared.bench.PlugNote.{PlugNote}
 use Rattle.player_core.specs.State.{Lasting}
 use Rattle.player_core.specs.Entry.{entry_automaton}
-use Rattle.player_core.specs.Fits.{Fits, NoPlugNamed}
+use Rattle.player_core.specs.Fits.{SidesFit, NoPlugNamed}
 use Rattle.player_core.specs.Bench.{notes_of}
 use Rattle.product_chain.specs.Expected.{IsSureMatch}
 use Rattle.lab_file.specs.Lab.{LabData, entry_at, no_entry}
@@ -24,7 +24,7 @@ both : (a b : Bool) → a ≡ true → b ≡ true → (a && b) ≡ true
 both true b e f = f
 both false b e f = absurd (cc)
 
-module _ (tell : NotesTell) (players on_the_right : List Lasting) (fits : Fits players on_the_right) (notes : List PlugNote) (lab : LabData) (here : notes ≡ notes_of players) (noted : AreNoted notes lab.entries) where
+module _ (tell : NotesTell) (players on_the_right : List Lasting) (fits : SidesFit players on_the_right) (notes : List PlugNote) (lab : LabData) (here : notes ≡ notes_of players) (noted : AreNoted notes lab.entries) where
   module _ (place : ℕ) (entrant : Entrant) (inside : place < length lab.entries) (is : IsEntrant lab place entrant) where
     -- its plug has a note
     sheet_noted : IsNoted (notes_of players) entrant.sheet

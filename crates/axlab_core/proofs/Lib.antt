@@ -10,6 +10,7 @@ pub mod Entries
 pub mod Loading
 pub mod Points
 pub mod Reports
+pub mod Ruled
 pub mod SentUpTo
 pub mod Showing
 pub mod TableLines

@@ -26,9 +26,10 @@ use Rattle.axlab_core.specs.declared.load.LoadError.{LoadError}
 use Rattle.axlab_core.specs.declared.load.LoadError.TheVariants.{Unread, Refused, NoMemory}
 use Rattle.axlab_core.specs.Loading.{Stop, Missing, Refuses, ◌>>=◌, or_missing, or_stop, file_source, part_source, machine_source, lab_read, draft_read, entries_read, Loads, IsTold}
 use Rattle.axlab_core.specs.Steps.{of_file, ReadFails, Explains, IsReadyDraft, IsReadyEntry, ReadsLab, Attaches, AttachStops, AttachesAll, AttachAllStops, ReadsSecond, LoadsInput}
-use Rattle.lab_file.specs.declared.command.Command.TheVariants as commands
+use Rattle.lab_ports.specs.declared.refusal.FileRole.{FileRole}
 use Rattle.axlab_core.specs.declared.second.Second.{Second}
-use Rattle.axlab_core.specs.Input.{OfLab, cert_of, second_for}
+use Rattle.axlab_core.specs.declared.second.Second.TheVariants.{Alone}
+use Rattle.axlab_core.specs.Input.{OfLab, longest, second_for, second_of, second_read, second_role}
 
 -- what a read gave is what the source has
 gave_part : (limit : ℕ) (holding : Option Holding) (name bytes : List ℕ) → IsFront holding name limit bytes → part_source limit holding bytes name ≡ Some bytes
@@ -347,39 +348,47 @@ stops_reading command notes name holding stop reads = record {
 }
 
 -- the second file
-pub reads_cert : (lab : LabData) (name : List ℕ) (holding : Option Holding) (bytes read : List ℕ) (reading : Result Second Refusal)
-    → IsFront holding name 16777216 bytes → read ≡ bytes → reading ≡ cert_of read → ReadsSecond commands.Check lab name holding (or_stop reading)
-reads_cert lab name holding bytes read reading front same is = record {
+pub reads_second : (command : Command) (role : FileRole) (name : List ℕ) (holding : Option Holding) (bytes : List ℕ) (limit : ℕ) (reading : Result Second Refusal)
+    → second_role command ≡ Some role → limit ≡ longest role → IsFront holding name limit bytes → reading ≡ second_of role bytes
+    → ReadsSecond command name holding (or_stop reading)
+reads_second command role name holding bytes limit reading has same front is = record {
   given = bytes;
-  is = ap (λ found. or_missing found >>= λ b. or_stop (cert_of b)) (gave_part 16777216 holding name bytes front) ∙ ap (λ b. or_stop (cert_of b)) (sym same) ∙ ap or_stop (sym is);
+  is = ap (λ r. second_read r (λ limit. part_source limit holding bytes name)) has
+      ∙ ap (λ found. or_missing found >>= λ b. or_stop (second_of role b)) (gave_part (longest role) holding name bytes (rw same at front))
+      ∙ ap or_stop (sym is);
 }
 
-pub lacks_cert : (lab : LabData) (name : List ℕ) (holding : Option Holding) → IsMissing holding name → ReadsSecond commands.Check lab name holding (Err Missing)
-lacks_cert lab name holding missing = record {
+pub lacks_second : (command : Command) (role : FileRole) (name : List ℕ) (holding : Option Holding) → second_role command ≡ Some role → IsMissing holding name
+    → ReadsSecond command name holding (Err Missing)
+lacks_second command role name holding has missing = record {
   given = [];
-  is = ap (λ found. or_missing found >>= λ b. or_stop (cert_of b)) (lacks_part 16777216 holding name [] missing);
+  is = ap (λ r. second_read r (λ limit. part_source limit holding [] name)) has
+      ∙ ap (λ found. or_missing found >>= λ b. or_stop (second_of role b)) (lacks_part (longest role) holding name [] missing);
 }
+
+pub reads_none : (command : Command) (name : List ℕ) (holding : Option Holding) → second_role command ≡ None → ReadsSecond command name holding (Ok Alone)
+reads_none command name holding none = record { given = []; is = ap (λ r. second_read r (λ limit. part_source limit holding [] name)) none }
 
 -- the files of a command
 pub loads_both : (command : Command) (notes : List PlugNote) (name second_name : List ℕ) (holding later : Option Holding) (lab : LabData) (second : Second)
-    → later ≡ holding → Loads command notes name holding (Ok lab) → ReadsSecond command lab second_name later (Ok second)
+    → later ≡ holding → Loads command notes name holding (Ok lab) → ReadsSecond command second_name later (Ok second)
     → LoadsInput command notes (record { lab = name; second = second_name }) holding (Ok (OfLab lab second))
 loads_both command notes name second_name holding later lab second same loads reads_later =
-    let reads : ReadsSecond command lab second_name holding (Ok second) = rw same at reads_later in
+    let reads : ReadsSecond command second_name holding (Ok second) = rw same at reads_later in
     record {
       given = record { lab = loads.lab_given; machines = loads.machines_given; second = reads.given };
-      is = ap (λ r. r >>= λ (l : LabData). second_for command l (λ limit. part_source limit holding reads.given second_name) >>= λ s. Ok (OfLab l s)) loads.is
+      is = ap (λ r. r >>= λ (l : LabData). second_for command (λ limit. part_source limit holding reads.given second_name) >>= λ s. Ok (OfLab l s)) loads.is
           ∙ ap (λ r. r >>= λ s. Ok (OfLab lab s)) reads.is;
     }
 
 pub stops_second : (command : Command) (notes : List PlugNote) (name second_name : List ℕ) (holding later : Option Holding) (lab : LabData) (stop : Stop)
-    → later ≡ holding → Loads command notes name holding (Ok lab) → ReadsSecond command lab second_name later (Err stop)
+    → later ≡ holding → Loads command notes name holding (Ok lab) → ReadsSecond command second_name later (Err stop)
     → LoadsInput command notes (record { lab = name; second = second_name }) holding (Err stop)
 stops_second command notes name second_name holding later lab stop same loads reads_later =
-    let reads : ReadsSecond command lab second_name holding (Err stop) = rw same at reads_later in
+    let reads : ReadsSecond command second_name holding (Err stop) = rw same at reads_later in
     record {
       given = record { lab = loads.lab_given; machines = loads.machines_given; second = reads.given };
-      is = ap (λ r. r >>= λ (l : LabData). second_for command l (λ limit. part_source limit holding reads.given second_name) >>= λ s. Ok (OfLab l s)) loads.is
+      is = ap (λ r. r >>= λ (l : LabData). second_for command (λ limit. part_source limit holding reads.given second_name) >>= λ s. Ok (OfLab l s)) loads.is
           ∙ ap (λ r. r >>= λ s. Ok (OfLab lab s)) reads.is;
     }
 
@@ -387,5 +396,5 @@ pub stops_first : (command : Command) (notes : List PlugNote) (name second_name 
     → Loads command notes name holding (Err stop) → LoadsInput command notes (record { lab = name; second = second_name }) holding (Err stop)
 stops_first command notes name second_name holding stop loads = record {
   given = record { lab = loads.lab_given; machines = loads.machines_given; second = [] };
-  is = ap (λ r. r >>= λ (l : LabData). second_for command l (λ limit. part_source limit holding [] second_name) >>= λ s. Ok (OfLab l s)) loads.is;
+  is = ap (λ r. r >>= λ (l : LabData). second_for command (λ limit. part_source limit holding [] second_name) >>= λ s. Ok (OfLab l s)) loads.is;
 }

@@ -4,7 +4,7 @@ use Rattle.std.proofs.lemmas.Bool.{cases_Bool}
 use Rattle.std.proofs.lemmas.Slice.Eq.{bytes_eq-Decides}
 use Rattle.history_model.specs.declared.tally.Tally.{Tally}
 use Rattle.player_core.specs.State.{Lasting}
-use Rattle.player_core.specs.Fits.{Fits}
+use Rattle.player_core.specs.Fits.{SidesFit}
 use Rattle.match_play.specs.declared.line.MatchLine.{MatchLine}
 use Rattle.lab_report.specs.declared.report.Report.{Report}
 use Rattle.lab_report.specs.Names.{name_at}
@@ -30,7 +30,14 @@ right_shown left right = elim (cases_Bool (bytes_eq left right)) [
 -- where its names stand changes nothing of what a line says
 pub placed : (players : List Lasting) (lab : LabData) (left right : Entrant) (line : MatchLine) (i j : ℕ) (tally : Option Tally)
     → IsRightScore players lab left right line tally → IsRightScore players lab left right (record line { left = i; right = j }) tally
-placed players lab left right line i j (Some tally) played = record { sure = played.sure; plays = played.plays; left_score = played.left_score; right_score = played.right_score }
+placed players lab left right line i j (Some tally) played = record {
+  sure = played.sure;
+  history = played.history;
+  by_rules = played.by_rules;
+  plays = played.plays;
+  left_score = played.left_score;
+  right_score = played.right_score;
+}
 placed players lab left right line i j None mixed = record {
   unsure = mixed.unsure;
   left_holds = mixed.left_holds;
@@ -41,7 +48,7 @@ placed players lab left right line i j None mixed = record {
   right_tight = mixed.right_tight;
 }
 
-pub right_report : {E : Type 0} (players on_the_right : List Lasting) → Fits players on_the_right → (lab : LabData) (job : MatchJob) (line : MatchLine) (made : Result Report E)
+pub right_report : {E : Type 0} (players on_the_right : List Lasting) → SidesFit players on_the_right → (lab : LabData) (job : MatchJob) (line : MatchLine) (made : Result Report E)
     → lab.jobs.match_job ≡ Some job → IsRightBetween players lab job.left job.right job.turns line
     → IfOk made (λ report. report ≡ match_report_of lab.game lab.noise (entry_at lab.entries job.left).name (entry_at lab.entries job.right).name line)
     → IfOk made IsValid → IfOk made (λ report. IsRightMatch players lab (report_text report))

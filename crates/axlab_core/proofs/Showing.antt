@@ -11,7 +11,7 @@ use Rattle.history_model.specs.Tally.{CountsArePaid, counts, total, left_points,
 use Rattle.history_model.specs.declared.tally.Tally.{Tally}
 use Rattle.fixed_span.specs.Span.{Ends, point, score_units}
 use Rattle.player_core.specs.State.{Lasting}
-use Rattle.player_core.specs.Fits.{Fits}
+use Rattle.player_core.specs.Fits.{SidesFit}
 use Rattle.player_core.specs.Entry.{entry_automaton}
 use Rattle.match_play.specs.declared.line.MatchLine.{MatchLine}
 use Rattle.product_chain.specs.Expected.{IsPayable}
@@ -86,7 +86,7 @@ module _ (law : CountsArePaid) (a b : Automaton) (na nb : FlipRate) (game read :
   line_shown other of_lab scored = shown line.tally refl (rw of_lab at scored)
 
 -- the line of two entries can be shown
-pub line_showable : CountsArePaid → (players on_the_right : List Lasting) → Fits players on_the_right → (left right : Entrant) (game read other : Payoffs) (n : ℕ) (line : MatchLine)
+pub line_showable : CountsArePaid → (players on_the_right : List Lasting) → SidesFit players on_the_right → (left right : Entrant) (game read other : Payoffs) (n : ℕ) (line : MatchLine)
     → IsGame read → read ≡ game → other ≡ game → 1 ≤ n → n ≤ 1000000000000 → line.turns ≡ n
     → line.left_score.lo ≤ℤ line.left_score.hi → line.right_score.lo ≤ℤ line.right_score.hi
     → IsLineOf (entry_automaton players left.sheet) left.noise (entry_automaton players right.sheet) right.noise other n line → IsShowable game line

@@ -13,7 +13,7 @@ use Rattle.history_model.specs.declared.tally.Tally.{Tally}
 use Rattle.fixed_span.specs.Span.{Ends}
 use Rattle.match_play.specs.declared.line.MatchLine.{MatchLine}
 use Rattle.player_core.specs.State.{Lasting}
-use Rattle.player_core.specs.Fits.{Fits}
+use Rattle.player_core.specs.Fits.{SidesFit}
 use Rattle.round_robin.specs.declared.contestant.Contestant.{Contestant}
 use Rattle.round_robin.specs.declared.tables.Totals.{Totals}
 use Rattle.round_robin.specs.Contest.{Strategy, IsPair, ArePairs, strategy_at, strategies_of}
@@ -85,7 +85,7 @@ results_shown law strategies game n count pairs results valid some few few_entri
           omega (arith, top, many, as_many)
 
 -- the results of contestants on a bench, whose pairs are known otherwise
-pub results_shown_on : LinesHold → (players on_the_right : List Lasting) → Fits players on_the_right → (contestants : List Contestant) (game read : Payoffs) (n count : ℕ)
+pub results_shown_on : LinesHold → (players on_the_right : List Lasting) → SidesFit players on_the_right → (contestants : List Contestant) (game read : Payoffs) (n count : ℕ)
     (pairs others : List (ℕ × ℕ)) (results : Totals)
     → IsGame read → read ≡ game → 1 ≤ n → n ≤ 1000000000000 → count ≤ 64 → ArePairs count others → 2 * length others ≤ count * (count + 1)
     → pairs ≡ others → AreLines (strategies_of players contestants) read n pairs results.matches → results.entries ≡ entries_of count results.matches → AreResults count game results

@@ -1,22 +1,24 @@
 -- What a command works on, and the one order in which a call comes to it.
-use Rattle.std.specs.Prelude.{◌≡◌, ℕ, nat_lt, List, length, Option, Result, Ok, Err, bytes_eq, if◌then◌else◌}
-use Rattle.history_model.specs.Name.{is_name}
-use Rattle.player_core.specs.State.{Lasting}
+use Rattle.std.specs.Prelude.{◌≡◌, ℕ, nat_lt, List, length, Option, Some, None, Result, Ok, Err, if◌then◌else◌}
+use Rattle.player_core.specs.State.{Lasting, players_of}
 use Rattle.player_core.specs.declared.bench.PlugNote.{PlugNote}
 use Rattle.player_core.specs.Bench.{notes_of}
-use Rattle.lab_ports.specs.declared.refusal.FileRole.TheVariants.{Cert}
+use Rattle.lab_ports.specs.declared.refusal.FileRole.{FileRole}
+use Rattle.lab_ports.specs.declared.refusal.FileRole.TheVariants.{Rows, Cert}
 use Rattle.lab_ports.specs.declared.refusal.Refusal.{Refusal}
-use Rattle.lab_ports.specs.declared.refusal.Refusal.TheVariants.{TooLong, BadCertificate, NotBuilt}
+use Rattle.lab_ports.specs.declared.refusal.Refusal.TheVariants.{TooLong, NotBuilt}
 use Rattle.lab_ports.specs.Holding.{Holding}
 use Rattle.lab_file.specs.declared.command.Command.{Command}
 use Rattle.lab_file.specs.declared.command.Command.TheVariants as commands
-use Rattle.lab_file.specs.Lab.{LabData, entry_at}
+use Rattle.lab_file.specs.Lab.{LabData}
+use Rattle.lab_file.specs.LabOf.{longest_file}
 use Rattle.axlab_core.specs.declared.second.Second.{Second}
-use Rattle.axlab_core.specs.declared.second.Second.TheVariants.{Alone, Named}
+use Rattle.axlab_core.specs.declared.second.Second.TheVariants.{Alone, Bytes}
 use Rattle.axlab_core.specs.declared.words.Form.{Form}
 use Rattle.axlab_core.specs.declared.words.Form.TheVariants.{Lab, Drill, Unbuilt, Faulty}
-use Rattle.axlab_core.specs.Loading.{Stop, Unlisted, Refuses, Denies, ◌>>=◌, or_missing, or_stop, lab_for, file_source, part_source, machine_source}
+use Rattle.axlab_core.specs.Loading.{Stop, Unlisted, Refuses, ◌>>=◌, or_missing, or_stop, lab_for, file_source, part_source, machine_source}
 use Rattle.axlab_core.specs.Words.{form_of, lab_name, second_name}
+use Rattle.axlab_core.specs.World.{World}
 
 -- what a command works on: a lab with what the second file gives, or its words alone
 pub data Input : Type 0 where
@@ -52,25 +54,28 @@ sources names holding given = record {
 
 -- ---- the second file
 
-abbrev pub longest_cert : ℕ
-longest_cert = 16777216
+-- what the second file of a command is, where its words name one: `resume LAB ROWS`, `check LAB CERT`
+abbrev pub second_role : Command → Option FileRole
+second_role commands.Resume = Some Rows
+second_role commands.Check = Some Cert
+second_role _ = None
 
-abbrev pub cert_of : List ℕ → Result Second Refusal
-cert_of bytes =
-    if nat_lt longest_cert (length bytes) then Err (TooLong Cert)
-    else if is_name bytes then Ok (Named bytes)
-    else Err (BadCertificate 1)
+-- a certificate has at most 16 MiB, any other file 1 MiB
+abbrev pub longest : FileRole → ℕ
+longest Cert = 16777216
+longest _ = longest_file
 
--- what the second file of a command gives: its read, its length, its grammar
-abbrev pub second_for : Command → LabData → (ℕ → Option (List ℕ)) → Result Second Stop
-second_for commands.Check lab source = or_missing (source longest_cert) >>= λ bytes. or_stop (cert_of bytes)
-second_for _ lab source = Ok Alone
+-- the bytes, where there aren't too many
+abbrev pub second_of : FileRole → List ℕ → Result Second Refusal
+second_of role bytes = if nat_lt (longest role) (length bytes) then Err (TooLong role) else Ok (Bytes bytes)
 
--- a command has the second file that it wants
-abbrev pub IsSecondOf : Command → Second → Type 0
-IsSecondOf commands.Check (Named name) = Unit {0}
-IsSecondOf commands.Check Alone = ⊥
-IsSecondOf _ second = Unit {0}
+abbrev pub second_read : Option FileRole → (ℕ → Option (List ℕ)) → Result Second Stop
+second_read None source = Ok Alone
+second_read (Some role) source = or_missing (source (longest role)) >>= λ bytes. or_stop (second_of role bytes)
+
+-- what the second file of a command gives
+abbrev pub second_for : Command → (ℕ → Option (List ℕ)) → Result Second Stop
+second_for command source = second_read (second_role command) source
 
 -- ---- the order
 
@@ -78,12 +83,11 @@ IsSecondOf _ second = Unit {0}
 abbrev pub loaded_for : Command → List PlugNote → Sources → Result Input Stop
 loaded_for command notes sources = do
   lab ← lab_for command notes sources.lab sources.machines
-  second ← second_for command lab sources.second
+  second ← second_for command sources.second
   Ok (OfLab lab second)
 
--- the input again where it passes the tests of its command, or the first line that is denied
+-- the input again where it passes the tests of its command, or the first line that is denied; so far no command tests
 abbrev pub tested : Form → List Lasting → Input → Result Input Stop
-tested (Lab commands.Check) players (OfLab lab (Named name)) = if bytes_eq name (entry_at lab.entries 0).name then Ok (OfLab lab (Named name)) else Err (Denies 1)
 tested _ players input = Ok input
 
 -- the whole order: the words, the files, the tests
@@ -95,23 +99,25 @@ input_for Faulty players sources = Err Unlisted
 
 -- ---- a call
 
--- what a call is given: its words, the players of its bench, and what its library tells of the files that it holds
+-- what a call is given: its words, and the world as it stands
 pub record Call : Type 0 where
   pub form : Form
   pub names : Names
-  pub players : List Lasting
-  pub holding : Option Holding
+  pub before : World
 
-abbrev pub call_of : List (List ℕ) → List Lasting → Option Holding → Call
-call_of words players holding = record {
+abbrev pub call_of : List (List ℕ) → World → Call
+call_of words before = record {
   form = form_of words;
   names = record { lab = lab_name words; second = second_name words };
-  players = players;
-  holding = holding;
+  before = before;
 }
 
+-- the players that the call finds on the bench
+abbrev pub players : Call → List Lasting
+players call = players_of call.before.bench
+
 abbrev pub input_by : Call → Given → Result Input Stop
-input_by call given = input_for call.form call.players (sources call.names call.holding given)
+input_by call given = input_for call.form (players call) (sources call.names call.before.holding given)
 
 -- the call comes to this answer, by what the library holds, where it tells it; else by some bytes that the reads gave
 pub record Comes (call : Call) (answer : Result Input Stop) : Type 0 where

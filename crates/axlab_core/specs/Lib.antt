@@ -1,3 +1,4 @@
+pub mod ByRule
 pub mod Commands
 pub mod Complete
 pub mod Contestants
@@ -13,7 +14,6 @@ pub mod RightLine
 pub mod RightMatch
 pub mod RightTournament
 pub mod Sent
-pub mod Sides
 pub mod Steps
 pub mod Texts
 pub mod WordList

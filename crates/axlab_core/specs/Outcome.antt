@@ -69,33 +69,34 @@ IsWork Unbuilt = ⊥
 IsWork Faulty = ⊥
 
 -- the output took all, a part, or a front part of a right text, for which the players were asked
-pub record Wrote (call : Call) (before after : World) (Took : Option (List ℕ) → Option (List ℕ) → List ℕ → Type 0) : Type 0 where
+pub record Wrote (call : Call) (after : World) (Took : Option (List ℕ) → Option (List ℕ) → List ℕ → Type 0) : Type 0 where
   pub input : Input
   pub comes : Comes call (Ok input)
   pub text : List ℕ
-  pub served : IsServed call.form call.players before.counts after.counts input text
-  pub took : Took before.taken after.taken text
+  pub served : IsServed call.form call.before.bench after.bench input text
+  pub took : Took call.before.taken after.taken text
 
-abbrev pub IsUntouched : World → World → Type 0
-IsUntouched before after = after.taken ≡ before.taken
+abbrev pub IsUntouched : Call → World → Type 0
+IsUntouched call after = after.taken ≡ call.before.taken
 
 -- the words want files, and the library failed, or it tells what it holds and the next file isn't there
-abbrev pub IsUnread : Call → World → World → Type 0
-IsUnread call before after = (needs_lab call.form ≡ true) × (Rose before.read_faults after.read_faults ⊎ (IsTold call.holding × Comes call (Err Missing)))
+abbrev pub IsUnread : Call → World → Type 0
+IsUnread call after =
+    (needs_lab call.form ≡ true) × (Rose call.before.read_faults after.read_faults ⊎ (IsTold call.before.holding × Comes call (Err Missing)))
 
 -- memory is wanted only where there is work, and then the output took nothing, or a front part of a right text
-abbrev pub LeftOff : Call → World → World → Type 0
-LeftOff call before after = IsWork call.form × (IsUntouched before after ⊎ Wrote call before after GrewByFront)
+abbrev pub LeftOff : Call → World → Type 0
+LeftOff call after = IsWork call.form × (IsUntouched call after ⊎ Wrote call after GrewByFront)
 
 -- how a call may end, by status
-abbrev pub Ends : Call → World → World → Status → Type 0
-Ends call before after Answered = Wrote call before after Grew
-Ends call before after (Denied line) = Comes call (Err (Denies line)) × IsUntouched before after
-Ends call before after Usage = (call.form ≡ Faulty) × IsUntouched before after
-Ends call before after ReadFault = IsUnread call before after × IsUntouched before after
-Ends call before after (Refused refusal) = Comes call (Err (Refuses refusal)) × IsUntouched before after
-Ends call before after WriteFault = Wrote call before after GrewByPart × Rose before.write_faults after.write_faults
-Ends call before after NoMemory = LeftOff call before after
+abbrev pub Ends : Call → World → Status → Type 0
+Ends call after Answered = Wrote call after Grew
+Ends call after (Denied line) = Comes call (Err (Denies line)) × IsUntouched call after
+Ends call after Usage = (call.form ≡ Faulty) × IsUntouched call after
+Ends call after ReadFault = IsUnread call after × IsUntouched call after
+Ends call after (Refused refusal) = Comes call (Err (Refuses refusal)) × IsUntouched call after
+Ends call after WriteFault = Wrote call after GrewByPart × Rose call.before.write_faults after.write_faults
+Ends call after NoMemory = LeftOff call after
 
 -- the status by which a call ends that stops so
 abbrev pub status_of : Stop → Status

@@ -1,12 +1,11 @@
 -- What the work of each command must give.
-use Rattle.std.specs.Prelude.{◌≡◌, ℕ, List, Option, Result, Ok, Err, ◌⊎◌}
+use Rattle.std.specs.Prelude.{◌≡◌, ◌⊎◌, ℕ, List, Option, Result, Ok, Err}
 use Rattle.lab_file.specs.declared.command.Command.TheVariants as commands
 use Rattle.lab_ports.specs.Causes.{Rose}
 use Rattle.lab_ports.specs.Holding.{Grew, GrewByPart}
 use Rattle.axlab_core.specs.declared.output.Output.{Output}
 use Rattle.axlab_core.specs.declared.output.Hindrance.{Hindrance}
 use Rattle.axlab_core.specs.declared.output.Hindrance.TheVariants.{Denied, NoMemory}
-use Rattle.axlab_core.specs.declared.second.Second.TheVariants.{Named}
 use Rattle.axlab_core.specs.declared.words.Form.{Form}
 use Rattle.axlab_core.specs.declared.words.Form.TheVariants.{Lab, Drill}
 use Rattle.axlab_core.specs.Input.{Input, OfLab, OfWords, tested}
@@ -15,31 +14,27 @@ use Rattle.axlab_core.specs.Output.{IsSendable, output_text}
 use Rattle.axlab_core.specs.RightDrill.{IsRightDrill, IsAskedDrill}
 use Rattle.axlab_core.specs.RightMatch.{IsRightMatch, IsAskedMatch}
 use Rattle.axlab_core.specs.RightTournament.{IsRightTournament, IsAskedTournament}
-use Rattle.player_core.specs.State.{Lasting}
-use Rattle.axlab_core.specs.World.{Counts}
+use Rattle.player_core.specs.State.{BenchState, players_of}
 
--- the text is a right output of a command for its input, for which the players were asked as they must be
-abbrev pub IsServed : Form → List Lasting → Counts → Counts → Input → List ℕ → Type 0
-IsServed (Lab commands.Match) players before after (OfLab lab second) text =
-    IsRightMatch players lab text × IsAskedMatch players lab before.advances after.advances
-IsServed (Lab commands.Tournament) players before after (OfLab lab second) text =
-    IsRightTournament players lab text × IsAskedTournament players lab before.advances after.advances
-IsServed (Lab commands.Check) players before after (OfLab lab (Named name)) text = text ≡ name
-IsServed (Drill number) players before after OfWords text =
-    IsRightDrill players number text × IsAskedDrill players number before.advances after.advances
-IsServed _ players before after input text = ⊥
+-- the text is a right output of a command for its input, for which the players of the bench were asked as they must be
+abbrev pub IsServed : Form → BenchState → BenchState → Input → List ℕ → Type 0
+IsServed (Lab commands.Match) before after (OfLab lab second) text = IsRightMatch (players_of before) lab text × IsAskedMatch before after lab
+IsServed (Lab commands.Tournament) before after (OfLab lab second) text =
+    IsRightTournament (players_of before) lab text × IsAskedTournament before after lab
+IsServed (Drill number) before after OfWords text = IsRightDrill (players_of before) number text × IsAskedDrill before after number
+IsServed _ before after input text = ⊥
 
 -- an output that the work of a command may give for its input
-pub record ServesWell (form : Form) (players : List Lasting) (before after : Counts) (input : Input) (output : Output) : Type 0 where
-  pub passed : tested form players input ≡ Ok input
-  pub served : IsServed form players before after input (output_text output)
+pub record ServesWell (form : Form) (before after : BenchState) (input : Input) (output : Output) : Type 0 where
+  pub passed : tested form (players_of before) input ≡ Ok input
+  pub served : IsServed form before after input (output_text output)
   pub sendable : IsSendable output
 
 -- what the work of a command may give for its input
-abbrev pub Serves : Form → List Lasting → Counts → Counts → Input → Result Output Hindrance → Type 0
-Serves form players before after input (Ok output) = ServesWell form players before after input output
-Serves form players before after input (Err (Denied line)) = tested form players input ≡ Err (Denies line)
-Serves form players before after input (Err NoMemory) = Unit {0}
+abbrev pub Serves : Form → BenchState → BenchState → Input → Result Output Hindrance → Type 0
+Serves form before after input (Ok output) = ServesWell form before after input output
+Serves form before after input (Err (Denied line)) = tested form (players_of before) input ≡ Err (Denies line)
+Serves form before after input (Err NoMemory) = Unit {0}
 
 -- the sink took the text, or a part of it and failed
 abbrev pub Told : List ℕ → Option (List ℕ) → Option (List ℕ) → ℕ → ℕ → Type 0

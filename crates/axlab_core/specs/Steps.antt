@@ -15,7 +15,7 @@ use Rattle.axlab_core.specs.declared.load.LoadError.{LoadError}
 use Rattle.axlab_core.specs.declared.load.LoadError.TheVariants.{Unread, Refused, NoMemory}
 use Rattle.lab_file.specs.declared.command.Command.{Command}
 use Rattle.axlab_core.specs.declared.second.Second.{Second}
-use Rattle.axlab_core.specs.Input.{Input, Given, Names, sources, IsSecondOf, second_for, loaded_for}
+use Rattle.axlab_core.specs.Input.{Input, Given, Names, sources, second_for, loaded_for}
 use Rattle.axlab_core.specs.Loading.{Stop, Missing, Refuses, part_source, file_source, machine_source, lab_read, draft_read, entries_read}
 
 -- a file's error
@@ -72,19 +72,17 @@ pub record AttachAllStops (holding : Option Holding) (old : LabData) (stop : Sto
   pub is : entries_read (machine_source holding given) [] old.entries ≡ Err stop
 
 -- the read of the second file made this of it
-pub record ReadsSecond (command : Command) (lab : LabData) (name : List ℕ) (holding : Option Holding) (answer : Result Second Stop) : Type 0 where
+pub record ReadsSecond (command : Command) (name : List ℕ) (holding : Option Holding) (answer : Result Second Stop) : Type 0 where
   pub given : List ℕ
-  pub is : second_for command lab (λ limit. part_source limit holding given name) ≡ answer
+  pub is : second_for command (λ limit. part_source limit holding given name) ≡ answer
 
 -- the reads of all files made this of them
 pub record LoadsInput (command : Command) (notes : List PlugNote) (names : Names) (holding : Option Holding) (answer : Result Input Stop) : Type 0 where
   pub given : Given
   pub is : loaded_for command notes (sources names holding given) ≡ answer
 
--- what the files of a command gave is fit for its work: the job keeps the limits, each sheet is there, each plug is noted, and the
--- second file is one that the command wants
-pub record IsFit (command : Command) (notes : List PlugNote) (lab : LabData) (second : Second) : Type 0 where
+-- a lab is fit for the work of a command: the job keeps the limits, each sheet is there, and each plug is noted
+pub record IsFit (command : Command) (notes : List PlugNote) (lab : LabData) : Type 0 where
   pub kept : limits_of notes command lab ≡ Ok tt
   pub ready : All IsReadyEntry lab.entries
   pub noted : AreNoted notes lab.entries
-  pub wanted : IsSecondOf command second

@@ -2,17 +2,16 @@
 ghost use Rattle.std.specs.Prelude.{◌≡◌, ◌<◌, ◌≤◌, All, length, map, IfOk};
 ghost use Rattle.std.specs.List.{range_with_len};
 ghost use Rattle.history_model.specs.Noise.{no_noise};
-ghost use Rattle.player_core.specs.State.{lasting_of};
+ghost use Rattle.player_core.specs.State.{players_of};
+ghost use Rattle.player_core.specs.Bench.{KeepsBench};
 ghost use Rattle.player_core.specs.Fits.{Fits};
-ghost use Rattle.player_core.specs.Counts.{turns_of};
-ghost use Rattle.round_robin.specs.Asked.{AreAsked};
+ghost use Rattle.round_robin.specs.Asked.{bench_turns, AreAsked};
 ghost use Rattle.round_robin.specs.Totals.{AreLines, entries_of};
 ghost use Rattle.lab_report.specs.Text.{report_text};
 ghost use Rattle.lab_report.specs.Valid.{IsValid, drill_game};
 ghost use Rattle.drill.specs.Drill.{drill_name};
 ghost use Rattle.axlab_core.specs.Machines.{AreMachines, AreStill, IsSmallTotal, drill_job, drill_pairs, first_of, is_first, line_at, machine_strategies, sum_of_totals, total_at};
-ghost use Rattle.axlab_core.specs.RightDrill.{IsRightDrill, IsAskedDrill};
-ghost use Rattle.axlab_core.specs.Sides.{KeepsBench};
+ghost use Rattle.axlab_core.specs.RightDrill.{IsAskedDrill, IsRightDrill};
 
 use drill::{drill_name, drill_sheets};
 use history_model::{Game, Name, NoMemory, Noise, weights_decide};
@@ -22,7 +21,7 @@ use lab_report::Report;
 use lookup_player::tables_follow_their_rule;
 use machine_player::machines_follow_their_rule;
 use memory_player::vectors_follow_their_rule;
-use player_core::{Bench, Player, Seats, Sheet, Side};
+use player_core::{Bench, Player, Seen, Sheet};
 use report_making::drill_report;
 use round_robin::laws::{lines_hold, sums_are_held, tournaments_are_true};
 use round_robin::{Contestant, EntryLine, Rank, Totals, totals};
@@ -55,12 +54,12 @@ fn contestants<'a>(
 
 // What the matches between all machines come to, for which the bench's players are asked.
 fn results(alloc: Global, sheets: &[Sheet], bench: &mut Bench) -> Result<Totals, NoMemory>
-    requires fits { Fits (lasting_of (⟦<Side as Seats>⟧.seats bench.old.left)) (lasting_of (⟦<Side as Seats>⟧.seats bench.old.right)) }
+    requires fits { Fits (⟦<Bench as Seen>⟧.view bench.old) }
     requires machines { AreMachines sheets.now }
-    ensures lines { IfOk result (λ totals. AreLines (machine_strategies (lasting_of (⟦<Side as Seats>⟧.seats bench.old.left)) sheets.now) drill_game drill_job.turns drill_pairs totals.matches) }
+    ensures lines { IfOk result (λ totals. AreLines (machine_strategies (players_of (⟦<Bench as Seen>⟧.view bench.old)) sheets.now) drill_game drill_job.turns drill_pairs totals.matches) }
     ensures entries { IfOk result (λ totals. totals.entries ≡ entries_of (length sheets.now) totals.matches) }
-    ensures asked { IfOk result (λ _. AreAsked (machine_strategies (lasting_of (⟦<Side as Seats>⟧.seats bench.old.left)) sheets.now) drill_job.turns drill_pairs (record { left = turns_of (⟦<Side as Seats>⟧.seats bench.old.left); right = turns_of (⟦<Side as Seats>⟧.seats bench.old.right) }) (record { left = turns_of (⟦<Side as Seats>⟧.seats bench.new.left); right = turns_of (⟦<Side as Seats>⟧.seats bench.new.right) })) }
-    ensures kept { KeepsBench (lasting_of (⟦<Side as Seats>⟧.seats bench.old.left)) (lasting_of (⟦<Side as Seats>⟧.seats bench.old.right)) (lasting_of (⟦<Side as Seats>⟧.seats bench.new.left)) (lasting_of (⟦<Side as Seats>⟧.seats bench.new.right)) }
+    ensures asked { IfOk result (λ _. AreAsked (machine_strategies (players_of (⟦<Bench as Seen>⟧.view bench.old)) sheets.now) drill_job.turns drill_pairs (bench_turns (⟦<Bench as Seen>⟧.view bench.old)) (bench_turns (⟦<Bench as Seen>⟧.view bench.new))) }
+    ensures kept { KeepsBench (⟦<Bench as Seen>⟧.view bench.old) (⟦<Bench as Seen>⟧.view bench.new) }
 {
     tournaments_ascend();
     let noise = Noise { n: 0, e: 1 };
@@ -144,11 +143,11 @@ fn names(alloc: Global) -> Result<Vec<Name>, NoMemory>
 
 /// The report of the drill of a number, which the bench's players are asked for.
 pub(crate) fn drill(alloc: Global, number: u64, bench: &mut Bench) -> Result<Report, NoMemory>
-    requires { Fits (lasting_of (⟦<Side as Seats>⟧.seats bench.old.left)) (lasting_of (⟦<Side as Seats>⟧.seats bench.old.right)) }
-    ensures right { IfOk result (λ report. IsRightDrill (lasting_of (⟦<Side as Seats>⟧.seats bench.old.left)) number (report_text report)) }
+    requires { Fits (⟦<Bench as Seen>⟧.view bench.old) }
+    ensures right { IfOk result (λ report. IsRightDrill (players_of (⟦<Bench as Seen>⟧.view bench.old)) number (report_text report)) }
     ensures valid { IfOk result IsValid }
-    ensures asked { IfOk result (λ _. IsAskedDrill (lasting_of (⟦<Side as Seats>⟧.seats bench.old.left)) number (record { left = turns_of (⟦<Side as Seats>⟧.seats bench.old.left); right = turns_of (⟦<Side as Seats>⟧.seats bench.old.right) }) (record { left = turns_of (⟦<Side as Seats>⟧.seats bench.new.left); right = turns_of (⟦<Side as Seats>⟧.seats bench.new.right) })) }
-    ensures kept { KeepsBench (lasting_of (⟦<Side as Seats>⟧.seats bench.old.left)) (lasting_of (⟦<Side as Seats>⟧.seats bench.old.right)) (lasting_of (⟦<Side as Seats>⟧.seats bench.new.left)) (lasting_of (⟦<Side as Seats>⟧.seats bench.new.right)) }
+    ensures asked { IfOk result (λ _. IsAskedDrill (⟦<Bench as Seen>⟧.view bench.old) (⟦<Bench as Seen>⟧.view bench.new) number) }
+    ensures kept { KeepsBench (⟦<Bench as Seen>⟧.view bench.old) (⟦<Bench as Seen>⟧.view bench.new) }
 {
     vectors_follow_their_rule();
     machines_follow_their_rule();

@@ -2,7 +2,6 @@
 //! the report.
 #![tactic(auto)]
 
-mod check_job;
 mod drill_job;
 mod load;
 mod matches;
@@ -14,7 +13,9 @@ mod status;
 mod telling;
 mod tournament;
 mod words;
+mod world;
 
 pub use run::axlab;
 pub use status::Status;
 pub use words::Form;
+pub use world::Watched;

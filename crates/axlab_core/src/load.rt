@@ -17,7 +17,7 @@ use std::alloc::Global;
 use strategy_file::Draft;
 
 // The longest lab file and the longest machine file, in bytes: 1 MiB.
-const LONGEST_FILE: usize = 1_048_576;
+pub(crate) const LONGEST_FILE: usize = 1_048_576;
 
 /// Why there is no lab.
 #[derive(Clone, Copy, Debug)]
@@ -158,10 +158,10 @@ pub(crate) fn load_input<L: Library>(
     files: &mut L,
 ) -> Result<Loaded, LoadError>
     ensures loads { IfOk result (λ loaded. LoadsInput command notes.now.items (record { lab = name.now; second = second_name.now }) (L.holding files.old) (Ok (OfLab loaded.lab loaded.second))) }
-    ensures fit { IfOk result (λ loaded. IsFit command notes.now.items loaded.lab loaded.second) }
+    ensures fit { IfOk result (λ loaded. IsFit command notes.now.items loaded.lab) }
     ensures stops { IfErr result (λ error. Explains error (Rose (L.faults files.old) (L.faults files.new)) (IsTold (L.holding files.old)) (λ stop. LoadsInput command notes.now.items (record { lab = name.now; second = second_name.now }) (L.holding files.old) (Err stop))) }
 {
     let lab = load_lab(alloc, command, name, notes, files)?;
-    let second = read_second(alloc, command, &lab, second_name, files)?;
+    let second = read_second(alloc, command, second_name, files)?;
     Ok(Loaded { lab, second })
 }

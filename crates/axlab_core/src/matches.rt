@@ -1,9 +1,8 @@
 //! The match of a lab.
 ghost use Rattle.std.specs.Prelude.{◌≡◌, ◌<◌, ◌&&◌, All, length, Some, Ok, IfOk};
-ghost use Rattle.player_core.specs.State.{lasting_of};
+ghost use Rattle.player_core.specs.State.{players_of};
 ghost use Rattle.player_core.specs.Fits.{Fits};
-ghost use Rattle.player_core.specs.Counts.{turns_of};
-ghost use Rattle.player_core.specs.Bench.{notes_of};
+ghost use Rattle.player_core.specs.Bench.{KeepsBench, notes_of};
 ghost use Rattle.player_core.specs.Sheet.{IsSheet};
 ghost use Rattle.lab_report.specs.Text.{report_text};
 ghost use Rattle.lab_report.specs.Valid.{IsShowable, IsValid};
@@ -14,12 +13,11 @@ ghost use Rattle.lab_file.specs.Notes.{AreNoted};
 ghost use Rattle.lab_file.specs.Sure.{entry_is_sure};
 ghost use Rattle.lab_file.specs.Limits.{match_limits, limits_of};
 ghost use Rattle.axlab_core.specs.Entrants.{IsEntrant};
-ghost use Rattle.axlab_core.specs.RightLine.{IsRightBetween, IsAskedBetween};
-ghost use Rattle.axlab_core.specs.RightMatch.{IsRightMatch, IsAskedMatch};
-ghost use Rattle.axlab_core.specs.Sides.{KeepsBench};
+ghost use Rattle.axlab_core.specs.RightLine.{IsAskedBetween, IsRightBetween};
+ghost use Rattle.axlab_core.specs.RightMatch.{IsAskedMatch, IsRightMatch};
 ghost use Rattle.axlab_core.specs.Steps.{IsReadyEntry};
 
-use history_model::{NoMemory, counts_are_paid, weights_decide};
+use history_model::{NoMemory, counts_are_paid, path_is_one, weights_decide};
 use lab_file::laws::notes_tell;
 use lab_file::{Lab, MatchJob, entry_is_sure};
 use lab_report::Report;
@@ -27,7 +25,7 @@ use lookup_player::tables_follow_their_rule;
 use machine_player::machines_follow_their_rule;
 use match_play::{MatchLine, Trail};
 use memory_player::vectors_follow_their_rule;
-use player_core::{Bench, Player, PlugNote, Seats, Side};
+use player_core::{Bench, Player, PlugNote, Seen};
 use report_making::match_report;
 use round_robin::{Entrant, match_line};
 use std::alloc::Global;
@@ -85,22 +83,23 @@ fn job_line(
     job: &MatchJob,
     bench: &mut Bench,
 ) -> Result<MatchLine, NoMemory>
-    requires fits { Fits (lasting_of (⟦<Side as Seats>⟧.seats bench.old.left)) (lasting_of (⟦<Side as Seats>⟧.seats bench.old.right)) }
-    requires notes { notes.now.items ≡ notes_of (lasting_of (⟦<Side as Seats>⟧.seats bench.old.left)) }
+    requires fits { Fits (⟦<Bench as Seen>⟧.view bench.old) }
+    requires notes { notes.now.items ≡ notes_of (players_of (⟦<Bench as Seen>⟧.view bench.old)) }
     requires sound { IsMatchJob (length lab.now.entries) job.now }
     requires limits { match_limits notes.now.items lab.now.entries job.now ≡ Ok tt }
     requires ready { All IsReadyEntry lab.now.entries }
     requires noted { AreNoted notes.now.items lab.now.entries }
-    ensures right { IfOk result (IsRightBetween (lasting_of (⟦<Side as Seats>⟧.seats bench.old.left)) lab.now job.now.left job.now.right job.now.turns) }
+    ensures right { IfOk result (IsRightBetween (players_of (⟦<Bench as Seen>⟧.view bench.old)) lab.now job.now.left job.now.right job.now.turns) }
     ensures showable { IfOk result (IsShowable lab.now.game) }
-    ensures asked { IfOk result (λ _. IsAskedBetween (lasting_of (⟦<Side as Seats>⟧.seats bench.old.left)) lab.now job.now.left job.now.right job.now.turns (record { left = turns_of (⟦<Side as Seats>⟧.seats bench.old.left); right = turns_of (⟦<Side as Seats>⟧.seats bench.old.right) }) (record { left = turns_of (⟦<Side as Seats>⟧.seats bench.new.left); right = turns_of (⟦<Side as Seats>⟧.seats bench.new.right) })) }
-    ensures kept { KeepsBench (lasting_of (⟦<Side as Seats>⟧.seats bench.old.left)) (lasting_of (⟦<Side as Seats>⟧.seats bench.old.right)) (lasting_of (⟦<Side as Seats>⟧.seats bench.new.left)) (lasting_of (⟦<Side as Seats>⟧.seats bench.new.right)) }
+    ensures asked { IfOk result (λ _. IsAskedBetween (⟦<Bench as Seen>⟧.view bench.old) (⟦<Bench as Seen>⟧.view bench.new) lab.now job.now.left job.now.right job.now.turns) }
+    ensures kept { KeepsBench (⟦<Bench as Seen>⟧.view bench.old) (⟦<Bench as Seen>⟧.view bench.new) }
 {
     notes_tell();
     vectors_follow_their_rule();
     machines_follow_their_rule();
     tables_follow_their_rule();
     weights_decide();
+    path_is_one();
     counts_are_paid();
     let left = entrant(lab, job.left);
     let right = entrant(lab, job.right);
@@ -142,15 +141,15 @@ pub(crate) fn lab_match(
     notes: &Vec<PlugNote>,
     bench: &mut Bench,
 ) -> Result<Report, NoMemory>
-    requires fits { Fits (lasting_of (⟦<Side as Seats>⟧.seats bench.old.left)) (lasting_of (⟦<Side as Seats>⟧.seats bench.old.right)) }
-    requires notes { notes.now.items ≡ notes_of (lasting_of (⟦<Side as Seats>⟧.seats bench.old.left)) }
+    requires fits { Fits (⟦<Bench as Seen>⟧.view bench.old) }
+    requires notes { notes.now.items ≡ notes_of (players_of (⟦<Bench as Seen>⟧.view bench.old)) }
     requires kept { limits_of notes.now.items commands.Match lab.now ≡ Ok tt }
     requires ready { All IsReadyEntry lab.now.entries }
     requires noted { AreNoted notes.now.items lab.now.entries }
-    ensures right { IfOk result (λ report. IsRightMatch (lasting_of (⟦<Side as Seats>⟧.seats bench.old.left)) lab.now (report_text report)) }
+    ensures right { IfOk result (λ report. IsRightMatch (players_of (⟦<Bench as Seen>⟧.view bench.old)) lab.now (report_text report)) }
     ensures valid { IfOk result IsValid }
-    ensures asked { IfOk result (λ _. IsAskedMatch (lasting_of (⟦<Side as Seats>⟧.seats bench.old.left)) lab.now (record { left = turns_of (⟦<Side as Seats>⟧.seats bench.old.left); right = turns_of (⟦<Side as Seats>⟧.seats bench.old.right) }) (record { left = turns_of (⟦<Side as Seats>⟧.seats bench.new.left); right = turns_of (⟦<Side as Seats>⟧.seats bench.new.right) })) }
-    ensures kept { KeepsBench (lasting_of (⟦<Side as Seats>⟧.seats bench.old.left)) (lasting_of (⟦<Side as Seats>⟧.seats bench.old.right)) (lasting_of (⟦<Side as Seats>⟧.seats bench.new.left)) (lasting_of (⟦<Side as Seats>⟧.seats bench.new.right)) }
+    ensures asked { IfOk result (λ _. IsAskedMatch (⟦<Bench as Seen>⟧.view bench.old) (⟦<Bench as Seen>⟧.view bench.new) lab.now) }
+    ensures kept { KeepsBench (⟦<Bench as Seen>⟧.view bench.old) (⟦<Bench as Seen>⟧.view bench.new) }
 {
     let job = match_job(lab, notes);
     let line = job_line(alloc, lab, notes, &job, bench)?;

@@ -1,36 +1,34 @@
 //! Runs a command.
-ghost use Rattle.std.specs.Prelude.{◌≡◌, ◌≢◌, ◌↔◌, ℕ, false, Err};
-ghost use Rattle.player_core.specs.State.{lasting_of};
+ghost use Rattle.std.specs.Prelude.{◌≡◌, ◌≢◌, ◌↔◌, false, Err};
+ghost use Rattle.player_core.specs.State.{players_of};
 ghost use Rattle.player_core.specs.Fits.{Fits};
-ghost use Rattle.player_core.specs.Bench.{notes_of};
+ghost use Rattle.player_core.specs.Bench.{KeepsBench, notes_of};
 ghost use Rattle.lab_ports.specs.Causes.{Rose};
 ghost use Rattle.lab_ports.specs.Holding.{Grew, GrewByPart};
 ghost use Rattle.lab_ports.specs.declared.refusal.Refusal.TheVariants.{NotBuilt};
-ghost use Rattle.axlab_core.specs.Complete.{Holds, HoldsInput, IsStatusOrMemory};
+ghost use Rattle.axlab_core.specs.Complete.{MustAnswer, MustDrill, MustMiss, MustRefuse, MustStop};
 ghost use Rattle.axlab_core.specs.Input.{Comes, OfLab, OfWords, call_of};
-ghost use Rattle.axlab_core.specs.Loading.{Stop, Missing, Refuses, Denies};
-ghost use Rattle.axlab_core.specs.Outcome.{Ends, IsUnread, LeftOff, OnAnswered, OnWriteFault, OnReadFault, OnNoMemory, IfRefused, IfDenied, OnUnwritten, OnOther, Wrote, status_of};
+ghost use Rattle.axlab_core.specs.Loading.{Refuses, Denies};
+ghost use Rattle.axlab_core.specs.Outcome.{Ends, IsUnread, LeftOff, OnAnswered, OnWriteFault, OnReadFault, OnNoMemory, IfRefused, IfDenied, OnUnwritten, OnOther, Wrote};
 ghost use Rattle.axlab_core.specs.Right.{Serves, Told};
-ghost use Rattle.axlab_core.specs.Sides.{KeepsBench};
 ghost use Rattle.axlab_core.specs.Steps.{IsFit};
 ghost use Rattle.axlab_core.specs.Texts.{status_text};
 ghost use Rattle.axlab_core.specs.WordList.{word_list};
 ghost use Rattle.axlab_core.specs.Words.{form_of, lab_name, second_name, needs_lab};
-ghost use Rattle.axlab_core.specs.World.{counts_of, world_of};
 ghost use Rattle.axlab_core.specs.declared.words.Form.TheVariants as forms;
 
-use crate::check_job::lab_check;
 use crate::drill_job::drill;
 use crate::load::{LoadError, Loaded, load_input};
 use crate::matches::lab_match;
 use crate::output::{Hindrance, Output, deliver};
 use crate::telling::tell;
 use crate::tournament::lab_tournament;
+use crate::world::Watched;
 use crate::{Form, Status};
 use lab_file::Command;
 use lab_ports::{Library, Refusal, Sink};
 use player_core::laws::keeping_lasts;
-use player_core::{Bench, Player, PlugNote, Seats, Side};
+use player_core::{Bench, Player, PlugNote, Seen};
 use std::alloc::Global;
 
 // The name of the lab.
@@ -53,9 +51,9 @@ fn second_name(words: &Vec<String>) -> &str
 
 // The drill of a number, for which the bench's players are asked.
 fn serve_drill(alloc: Global, number: u64, bench: &mut Bench) -> Result<Output, Hindrance>
-    requires { Fits (lasting_of (⟦<Side as Seats>⟧.seats bench.old.left)) (lasting_of (⟦<Side as Seats>⟧.seats bench.old.right)) }
-    ensures served { Serves (forms.Drill number) (lasting_of (⟦<Side as Seats>⟧.seats bench.old.left)) (counts_of (⟦<Side as Seats>⟧.seats bench.old.left) (⟦<Side as Seats>⟧.seats bench.old.right)) (counts_of (⟦<Side as Seats>⟧.seats bench.new.left) (⟦<Side as Seats>⟧.seats bench.new.right)) OfWords result }
-    ensures kept { KeepsBench (lasting_of (⟦<Side as Seats>⟧.seats bench.old.left)) (lasting_of (⟦<Side as Seats>⟧.seats bench.old.right)) (lasting_of (⟦<Side as Seats>⟧.seats bench.new.left)) (lasting_of (⟦<Side as Seats>⟧.seats bench.new.right)) }
+    requires { Fits (⟦<Bench as Seen>⟧.view bench.old) }
+    ensures served { Serves (forms.Drill number) (⟦<Bench as Seen>⟧.view bench.old) (⟦<Bench as Seen>⟧.view bench.new) OfWords result }
+    ensures kept { KeepsBench (⟦<Bench as Seen>⟧.view bench.old) (⟦<Bench as Seen>⟧.view bench.new) }
 {
     match drill(alloc, number, bench) {
         Ok(report) => Ok(Output::Report(report)),
@@ -71,11 +69,11 @@ fn serve(
     notes: &Vec<PlugNote>,
     bench: &mut Bench,
 ) -> Result<Output, Hindrance>
-    requires fits { Fits (lasting_of (⟦<Side as Seats>⟧.seats bench.old.left)) (lasting_of (⟦<Side as Seats>⟧.seats bench.old.right)) }
-    requires notes { notes.now.items ≡ notes_of (lasting_of (⟦<Side as Seats>⟧.seats bench.old.left)) }
-    requires fit { IsFit command notes.now.items loaded.now.lab loaded.now.second }
-    ensures served { Serves (forms.Lab command) (lasting_of (⟦<Side as Seats>⟧.seats bench.old.left)) (counts_of (⟦<Side as Seats>⟧.seats bench.old.left) (⟦<Side as Seats>⟧.seats bench.old.right)) (counts_of (⟦<Side as Seats>⟧.seats bench.new.left) (⟦<Side as Seats>⟧.seats bench.new.right)) (OfLab loaded.now.lab loaded.now.second) result }
-    ensures kept { KeepsBench (lasting_of (⟦<Side as Seats>⟧.seats bench.old.left)) (lasting_of (⟦<Side as Seats>⟧.seats bench.old.right)) (lasting_of (⟦<Side as Seats>⟧.seats bench.new.left)) (lasting_of (⟦<Side as Seats>⟧.seats bench.new.right)) }
+    requires fits { Fits (⟦<Bench as Seen>⟧.view bench.old) }
+    requires notes { notes.now.items ≡ notes_of (players_of (⟦<Bench as Seen>⟧.view bench.old)) }
+    requires fit { IsFit command notes.now.items loaded.now.lab }
+    ensures served { Serves (forms.Lab command) (⟦<Bench as Seen>⟧.view bench.old) (⟦<Bench as Seen>⟧.view bench.new) (OfLab loaded.now.lab loaded.now.second) result }
+    ensures kept { KeepsBench (⟦<Bench as Seen>⟧.view bench.old) (⟦<Bench as Seen>⟧.view bench.new) }
 {
     match command {
         Command::Match => match lab_match(alloc, &loaded.lab, notes, bench) {
@@ -86,7 +84,6 @@ fn serve(
             Ok(report) => Ok(Output::Report(report)),
             Err(_) => Err(Hindrance::NoMemory),
         },
-        Command::Check => lab_check(alloc, &loaded.lab, &loaded.second),
         // The limits refuse every other command.
         _ => unreachable!(),
     }
@@ -103,10 +100,10 @@ fn answer_lab<L: Library, O: Sink>(
     bench: &mut Bench,
 ) -> Status
     requires form { form_of (word_list words.now) ≡ forms.Lab command }
-    requires fits { Fits (lasting_of (⟦<Side as Seats>⟧.seats bench.old.left)) (lasting_of (⟦<Side as Seats>⟧.seats bench.old.right)) }
-    requires notes { notes.now.items ≡ notes_of (lasting_of (⟦<Side as Seats>⟧.seats bench.old.left)) }
-    ensures ends { Ends (call_of (word_list words.now) (lasting_of (⟦<Side as Seats>⟧.seats bench.old.left)) (L.holding files.old)) (world_of (⟦<Side as Seats>⟧.seats bench.old.left) (⟦<Side as Seats>⟧.seats bench.old.right) (L.faults files.old) (O.taken out.old) (O.faults out.old)) (world_of (⟦<Side as Seats>⟧.seats bench.new.left) (⟦<Side as Seats>⟧.seats bench.new.right) (L.faults files.new) (O.taken out.new) (O.faults out.new)) result }
-    ensures kept { KeepsBench (lasting_of (⟦<Side as Seats>⟧.seats bench.old.left)) (lasting_of (⟦<Side as Seats>⟧.seats bench.old.right)) (lasting_of (⟦<Side as Seats>⟧.seats bench.new.left)) (lasting_of (⟦<Side as Seats>⟧.seats bench.new.right)) }
+    requires fits { Fits (⟦<Bench as Seen>⟧.view bench.old) }
+    requires notes { notes.now.items ≡ notes_of (players_of (⟦<Bench as Seen>⟧.view bench.old)) }
+    ensures ends { Ends (call_of (word_list words.now) (⟦<Bench as Watched<L, O>>⟧.world bench.old files.old out.old)) (⟦<Bench as Watched<L, O>>⟧.world bench.new files.new out.new) result }
+    ensures kept { KeepsBench (⟦<Bench as Seen>⟧.view bench.old) (⟦<Bench as Seen>⟧.view bench.new) }
 {
     keeping_lasts();
     match load_input(
@@ -137,9 +134,9 @@ fn run_lab<L: Library, O: Sink>(
     bench: &mut Bench,
 ) -> Status
     requires form { form_of (word_list words.now) ≡ forms.Lab command }
-    requires fits { Fits (lasting_of (⟦<Side as Seats>⟧.seats bench.old.left)) (lasting_of (⟦<Side as Seats>⟧.seats bench.old.right)) }
-    ensures ends { Ends (call_of (word_list words.now) (lasting_of (⟦<Side as Seats>⟧.seats bench.old.left)) (L.holding files.old)) (world_of (⟦<Side as Seats>⟧.seats bench.old.left) (⟦<Side as Seats>⟧.seats bench.old.right) (L.faults files.old) (O.taken out.old) (O.faults out.old)) (world_of (⟦<Side as Seats>⟧.seats bench.new.left) (⟦<Side as Seats>⟧.seats bench.new.right) (L.faults files.new) (O.taken out.new) (O.faults out.new)) result }
-    ensures kept { KeepsBench (lasting_of (⟦<Side as Seats>⟧.seats bench.old.left)) (lasting_of (⟦<Side as Seats>⟧.seats bench.old.right)) (lasting_of (⟦<Side as Seats>⟧.seats bench.new.left)) (lasting_of (⟦<Side as Seats>⟧.seats bench.new.right)) }
+    requires fits { Fits (⟦<Bench as Seen>⟧.view bench.old) }
+    ensures ends { Ends (call_of (word_list words.now) (⟦<Bench as Watched<L, O>>⟧.world bench.old files.old out.old)) (⟦<Bench as Watched<L, O>>⟧.world bench.new files.new out.new) result }
+    ensures kept { KeepsBench (⟦<Bench as Seen>⟧.view bench.old) (⟦<Bench as Seen>⟧.view bench.new) }
 {
     keeping_lasts();
     match bench.notes(alloc) {
@@ -156,10 +153,10 @@ fn run<L: Library, O: Sink>(
     out: &mut O,
     bench: &mut Bench,
 ) -> Status
-    requires { Fits (lasting_of (⟦<Side as Seats>⟧.seats bench.old.left)) (lasting_of (⟦<Side as Seats>⟧.seats bench.old.right)) }
-    ensures ends { Ends (call_of (word_list words.now) (lasting_of (⟦<Side as Seats>⟧.seats bench.old.left)) (L.holding files.old)) (world_of (⟦<Side as Seats>⟧.seats bench.old.left) (⟦<Side as Seats>⟧.seats bench.old.right) (L.faults files.old) (O.taken out.old) (O.faults out.old)) (world_of (⟦<Side as Seats>⟧.seats bench.new.left) (⟦<Side as Seats>⟧.seats bench.new.right) (L.faults files.new) (O.taken out.new) (O.faults out.new)) result }
+    requires { Fits (⟦<Bench as Seen>⟧.view bench.old) }
+    ensures ends { Ends (call_of (word_list words.now) (⟦<Bench as Watched<L, O>>⟧.world bench.old files.old out.old)) (⟦<Bench as Watched<L, O>>⟧.world bench.new files.new out.new) result }
     ensures unread { needs_lab (form_of (word_list words.now)) ≡ false → files.new ≡ files.old }
-    ensures kept { KeepsBench (lasting_of (⟦<Side as Seats>⟧.seats bench.old.left)) (lasting_of (⟦<Side as Seats>⟧.seats bench.old.right)) (lasting_of (⟦<Side as Seats>⟧.seats bench.new.left)) (lasting_of (⟦<Side as Seats>⟧.seats bench.new.right)) }
+    ensures kept { KeepsBench (⟦<Bench as Seen>⟧.view bench.old) (⟦<Bench as Seen>⟧.view bench.new) }
 {
     keeping_lasts();
     match Form::of(words) {
@@ -184,33 +181,32 @@ pub fn axlab<L: Library, O: Sink, E: Sink>(
     err: &mut E,
     bench: &mut Bench,
 ) -> Status
-    requires { Fits (lasting_of (⟦<Side as Seats>⟧.seats bench.old.left)) (lasting_of (⟦<Side as Seats>⟧.seats bench.old.right)) }
+    requires { Fits (⟦<Bench as Seen>⟧.view bench.old) }
     // An answer is right, and the players were asked for it.
-    ensures answered { OnAnswered result (Wrote (call_of (word_list words.now) (lasting_of (⟦<Side as Seats>⟧.seats bench.old.left)) (L.holding files.old)) (world_of (⟦<Side as Seats>⟧.seats bench.old.left) (⟦<Side as Seats>⟧.seats bench.old.right) (L.faults files.old) (O.taken out.old) (O.faults out.old)) (world_of (⟦<Side as Seats>⟧.seats bench.new.left) (⟦<Side as Seats>⟧.seats bench.new.right) (L.faults files.new) (O.taken out.new) (O.faults out.new)) Grew) }
+    ensures answered { OnAnswered result (Wrote (call_of (word_list words.now) (⟦<Bench as Watched<L, O>>⟧.world bench.old files.old out.old)) (⟦<Bench as Watched<L, O>>⟧.world bench.new files.new out.new) Grew) }
 
     // Each other status has its cause.
     ensures usage { (result ≡ Status.Usage) ↔ (form_of (word_list words.now) ≡ forms.Faulty) }
     ensures unbuilt { form_of (word_list words.now) ≡ forms.Unbuilt → result ≡ Status.Refused NotBuilt }
     ensures unread { needs_lab (form_of (word_list words.now)) ≡ false → files.new ≡ files.old }
-    ensures read_fault { OnReadFault result (IsUnread (call_of (word_list words.now) (lasting_of (⟦<Side as Seats>⟧.seats bench.old.left)) (L.holding files.old)) (world_of (⟦<Side as Seats>⟧.seats bench.old.left) (⟦<Side as Seats>⟧.seats bench.old.right) (L.faults files.old) (O.taken out.old) (O.faults out.old)) (world_of (⟦<Side as Seats>⟧.seats bench.new.left) (⟦<Side as Seats>⟧.seats bench.new.right) (L.faults files.new) (O.taken out.new) (O.faults out.new))) }
-    ensures refused { IfRefused result (λ refusal. Comes (call_of (word_list words.now) (lasting_of (⟦<Side as Seats>⟧.seats bench.old.left)) (L.holding files.old)) (Err (Refuses refusal))) }
-    ensures denied { IfDenied result (λ line. Comes (call_of (word_list words.now) (lasting_of (⟦<Side as Seats>⟧.seats bench.old.left)) (L.holding files.old)) (Err (Denies line))) }
+    ensures read_fault { OnReadFault result (IsUnread (call_of (word_list words.now) (⟦<Bench as Watched<L, O>>⟧.world bench.old files.old out.old)) (⟦<Bench as Watched<L, O>>⟧.world bench.new files.new out.new)) }
+    ensures refused { IfRefused result (λ refusal. Comes (call_of (word_list words.now) (⟦<Bench as Watched<L, O>>⟧.world bench.old files.old out.old)) (Err (Refuses refusal))) }
+    ensures denied { IfDenied result (λ line. Comes (call_of (word_list words.now) (⟦<Bench as Watched<L, O>>⟧.world bench.old files.old out.old)) (Err (Denies line))) }
     ensures write_fault { OnWriteFault result (Rose (O.faults out.old) (O.faults out.new)) }
 
     // What is held must be answered, or stopped so, unless memory or a port fails.
-    ensures complete { HoldsInput (call_of (word_list words.now) (lasting_of (⟦<Side as Seats>⟧.seats bench.old.left)) (L.holding files.old))
-        → ¬ Rose (L.faults files.old) (L.faults files.new) → ¬ Rose (O.faults out.old) (O.faults out.new) → IsStatusOrMemory Status.Answered result }
-    ensures stops { (stop : Stop) → Holds (call_of (word_list words.now) (lasting_of (⟦<Side as Seats>⟧.seats bench.old.left)) (L.holding files.old)) (Err stop)
-        → ¬ Rose (L.faults files.old) (L.faults files.new) → IsStatusOrMemory (status_of stop) result }
-    ensures drills { (number : ℕ) → form_of (word_list words.now) ≡ forms.Drill number → ¬ Rose (O.faults out.old) (O.faults out.new) → IsStatusOrMemory Status.Answered result }
-    ensures misses { Holds (call_of (word_list words.now) (lasting_of (⟦<Side as Seats>⟧.seats bench.old.left)) (L.holding files.old)) (Err Missing) → IsStatusOrMemory Status.ReadFault result }
+    ensures complete { MustAnswer (call_of (word_list words.now) (⟦<Bench as Watched<L, O>>⟧.world bench.old files.old out.old)) (⟦<Bench as Watched<L, O>>⟧.world bench.new files.new out.new) result }
+    ensures stops { MustStop (call_of (word_list words.now) (⟦<Bench as Watched<L, O>>⟧.world bench.old files.old out.old)) (⟦<Bench as Watched<L, O>>⟧.world bench.new files.new out.new) result }
+    ensures refuses { MustRefuse (call_of (word_list words.now) (⟦<Bench as Watched<L, O>>⟧.world bench.old files.old out.old)) (⟦<Bench as Watched<L, O>>⟧.world bench.new files.new out.new) result }
+    ensures misses { MustMiss (call_of (word_list words.now) (⟦<Bench as Watched<L, O>>⟧.world bench.old files.old out.old)) result }
+    ensures drills { MustDrill (call_of (word_list words.now) (⟦<Bench as Watched<L, O>>⟧.world bench.old files.old out.old)) (⟦<Bench as Watched<L, O>>⟧.world bench.new files.new out.new) result }
 
     // The bench goes on fitting, with the same plugs and plug automata.
-    ensures kept { KeepsBench (lasting_of (⟦<Side as Seats>⟧.seats bench.old.left)) (lasting_of (⟦<Side as Seats>⟧.seats bench.old.right)) (lasting_of (⟦<Side as Seats>⟧.seats bench.new.left)) (lasting_of (⟦<Side as Seats>⟧.seats bench.new.right)) }
+    ensures kept { KeepsBench (⟦<Bench as Seen>⟧.view bench.old) (⟦<Bench as Seen>⟧.view bench.new) }
 
     // What the sinks took.
-    ensures part { OnWriteFault result (Wrote (call_of (word_list words.now) (lasting_of (⟦<Side as Seats>⟧.seats bench.old.left)) (L.holding files.old)) (world_of (⟦<Side as Seats>⟧.seats bench.old.left) (⟦<Side as Seats>⟧.seats bench.old.right) (L.faults files.old) (O.taken out.old) (O.faults out.old)) (world_of (⟦<Side as Seats>⟧.seats bench.new.left) (⟦<Side as Seats>⟧.seats bench.new.right) (L.faults files.new) (O.taken out.new) (O.faults out.new)) GrewByPart) }
-    ensures left_off { OnNoMemory result (LeftOff (call_of (word_list words.now) (lasting_of (⟦<Side as Seats>⟧.seats bench.old.left)) (L.holding files.old)) (world_of (⟦<Side as Seats>⟧.seats bench.old.left) (⟦<Side as Seats>⟧.seats bench.old.right) (L.faults files.old) (O.taken out.old) (O.faults out.old)) (world_of (⟦<Side as Seats>⟧.seats bench.new.left) (⟦<Side as Seats>⟧.seats bench.new.right) (L.faults files.new) (O.taken out.new) (O.faults out.new))) }
+    ensures part { OnWriteFault result (Wrote (call_of (word_list words.now) (⟦<Bench as Watched<L, O>>⟧.world bench.old files.old out.old)) (⟦<Bench as Watched<L, O>>⟧.world bench.new files.new out.new) GrewByPart) }
+    ensures left_off { OnNoMemory result (LeftOff (call_of (word_list words.now) (⟦<Bench as Watched<L, O>>⟧.world bench.old files.old out.old)) (⟦<Bench as Watched<L, O>>⟧.world bench.new files.new out.new)) }
     ensures untouched { OnUnwritten result (O.taken out.new ≡ O.taken out.old) }
     ensures silent { OnAnswered result (E.taken err.new ≡ E.taken err.old) }
     ensures told { OnOther result (Told (status_text result) (E.taken err.old) (E.taken err.new) (E.faults err.old) (E.faults err.new)) }

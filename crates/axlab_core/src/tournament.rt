@@ -1,11 +1,8 @@
 //! The tournament of a lab.
-ghost use Rattle.std.specs.Prelude.{◌≡◌, ◌<◌, All, length, map, Some, Ok, IfOk};
-ghost use Rattle.player_core.specs.State.{lasting_of};
+ghost use Rattle.std.specs.Prelude.{◌≡◌, ◌<◌, All, length, Some, Ok, IfOk};
+ghost use Rattle.player_core.specs.State.{players_of};
 ghost use Rattle.player_core.specs.Fits.{Fits};
-ghost use Rattle.player_core.specs.Counts.{turns_of};
-ghost use Rattle.player_core.specs.Bench.{notes_of};
-ghost use Rattle.round_robin.specs.Asked.{AreAsked};
-ghost use Rattle.round_robin.specs.Contest.{strategies_of};
+ghost use Rattle.player_core.specs.Bench.{KeepsBench, notes_of};
 ghost use Rattle.round_robin.specs.Totals.{AreLines, entries_of};
 ghost use Rattle.lab_report.specs.Text.{report_text};
 ghost use Rattle.lab_report.specs.Valid.{IsValid};
@@ -16,19 +13,19 @@ ghost use Rattle.lab_file.specs.Notes.{AreNoted};
 ghost use Rattle.lab_file.specs.Limits.{tournament_limits, limits_of};
 ghost use Rattle.lab_file.specs.Tournament.{tournament_pairs};
 ghost use Rattle.axlab_core.specs.Contestants.{AreFirst, IsContestantOf, names_of};
-ghost use Rattle.axlab_core.specs.RightTournament.{IsRightTournament, IsAskedTournament};
-ghost use Rattle.axlab_core.specs.Sides.{KeepsBench};
+ghost use Rattle.axlab_core.specs.RightTournament.{IsAskedTournament, IsRightTournament};
+ghost use Rattle.round_robin.specs.OnBench.{AreAskedOn, strategies_on};
 ghost use Rattle.axlab_core.specs.Steps.{IsReadyEntry};
 
 use crate::matches::entrant;
-use history_model::{Name, NoMemory, weights_decide};
+use history_model::{Name, NoMemory, path_is_one, weights_decide};
 use lab_file::laws::{matches_are_kept, notes_tell, tournaments_ascend};
 use lab_file::{Lab, TournamentJob, entry_is_sure};
 use lab_report::Report;
 use lookup_player::tables_follow_their_rule;
 use machine_player::machines_follow_their_rule;
 use memory_player::vectors_follow_their_rule;
-use player_core::{Bench, Player, PlugNote, Seats, Side};
+use player_core::{Bench, Player, PlugNote, Seen};
 use report_making::tournament_report;
 use round_robin::laws::{lines_hold, tournaments_are_true};
 use round_robin::{Contestant, Totals, totals};
@@ -98,17 +95,17 @@ fn results(
     contestants: &[Contestant<'_>],
     bench: &mut Bench,
 ) -> Result<Totals, NoMemory>
-    requires fits { Fits (lasting_of (⟦<Side as Seats>⟧.seats bench.old.left)) (lasting_of (⟦<Side as Seats>⟧.seats bench.old.right)) }
-    requires notes { notes.now.items ≡ notes_of (lasting_of (⟦<Side as Seats>⟧.seats bench.old.left)) }
+    requires fits { Fits (⟦<Bench as Seen>⟧.view bench.old) }
+    requires notes { notes.now.items ≡ notes_of (players_of (⟦<Bench as Seen>⟧.view bench.old)) }
     requires sound { IsTournamentJob (length lab.now.entries) job.now }
     requires limits { tournament_limits notes.now.items lab.now.entries job.now ≡ Ok tt }
     requires noted { AreNoted notes.now.items lab.now.entries }
     requires contestants { AreFirst notes.now.items lab.now (length lab.now.entries) contestants.now }
-    ensures lines { IfOk result (λ totals. AreLines (strategies_of (lasting_of (⟦<Side as Seats>⟧.seats bench.old.left)) contestants.now) lab.now.game job.now.turns (tournament_pairs job.now (length lab.now.entries)) totals.matches) }
+    ensures lines { IfOk result (λ totals. AreLines (strategies_on (⟦<Bench as Seen>⟧.view bench.old) contestants.now) lab.now.game job.now.turns (tournament_pairs job.now (length lab.now.entries)) totals.matches) }
     ensures entries { IfOk result (λ totals. totals.entries ≡ entries_of (length lab.now.entries) totals.matches) }
     ensures showable { IfOk result (AreResults (length lab.now.entries) lab.now.game) }
-    ensures asked { IfOk result (λ _. AreAsked (strategies_of (lasting_of (⟦<Side as Seats>⟧.seats bench.old.left)) contestants.now) job.now.turns (tournament_pairs job.now (length lab.now.entries)) (record { left = turns_of (⟦<Side as Seats>⟧.seats bench.old.left); right = turns_of (⟦<Side as Seats>⟧.seats bench.old.right) }) (record { left = turns_of (⟦<Side as Seats>⟧.seats bench.new.left); right = turns_of (⟦<Side as Seats>⟧.seats bench.new.right) })) }
-    ensures kept { KeepsBench (lasting_of (⟦<Side as Seats>⟧.seats bench.old.left)) (lasting_of (⟦<Side as Seats>⟧.seats bench.old.right)) (lasting_of (⟦<Side as Seats>⟧.seats bench.new.left)) (lasting_of (⟦<Side as Seats>⟧.seats bench.new.right)) }
+    ensures asked { IfOk result (λ _. AreAskedOn (⟦<Bench as Seen>⟧.view bench.old) (⟦<Bench as Seen>⟧.view bench.new) contestants.now job.now.turns (tournament_pairs job.now (length lab.now.entries))) }
+    ensures kept { KeepsBench (⟦<Bench as Seen>⟧.view bench.old) (⟦<Bench as Seen>⟧.view bench.new) }
 {
     notes_tell();
     tournaments_ascend();
@@ -142,20 +139,21 @@ pub(crate) fn lab_tournament(
     notes: &Vec<PlugNote>,
     bench: &mut Bench,
 ) -> Result<Report, NoMemory>
-    requires fits { Fits (lasting_of (⟦<Side as Seats>⟧.seats bench.old.left)) (lasting_of (⟦<Side as Seats>⟧.seats bench.old.right)) }
-    requires notes { notes.now.items ≡ notes_of (lasting_of (⟦<Side as Seats>⟧.seats bench.old.left)) }
+    requires fits { Fits (⟦<Bench as Seen>⟧.view bench.old) }
+    requires notes { notes.now.items ≡ notes_of (players_of (⟦<Bench as Seen>⟧.view bench.old)) }
     requires kept { limits_of notes.now.items commands.Tournament lab.now ≡ Ok tt }
     requires ready { All IsReadyEntry lab.now.entries }
     requires noted { AreNoted notes.now.items lab.now.entries }
-    ensures right { IfOk result (λ report. IsRightTournament (lasting_of (⟦<Side as Seats>⟧.seats bench.old.left)) lab.now (report_text report)) }
+    ensures right { IfOk result (λ report. IsRightTournament (players_of (⟦<Bench as Seen>⟧.view bench.old)) lab.now (report_text report)) }
     ensures valid { IfOk result IsValid }
-    ensures asked { IfOk result (λ _. IsAskedTournament (lasting_of (⟦<Side as Seats>⟧.seats bench.old.left)) lab.now (record { left = turns_of (⟦<Side as Seats>⟧.seats bench.old.left); right = turns_of (⟦<Side as Seats>⟧.seats bench.old.right) }) (record { left = turns_of (⟦<Side as Seats>⟧.seats bench.new.left); right = turns_of (⟦<Side as Seats>⟧.seats bench.new.right) })) }
-    ensures kept { KeepsBench (lasting_of (⟦<Side as Seats>⟧.seats bench.old.left)) (lasting_of (⟦<Side as Seats>⟧.seats bench.old.right)) (lasting_of (⟦<Side as Seats>⟧.seats bench.new.left)) (lasting_of (⟦<Side as Seats>⟧.seats bench.new.right)) }
+    ensures asked { IfOk result (λ _. IsAskedTournament (⟦<Bench as Seen>⟧.view bench.old) (⟦<Bench as Seen>⟧.view bench.new) lab.now) }
+    ensures kept { KeepsBench (⟦<Bench as Seen>⟧.view bench.old) (⟦<Bench as Seen>⟧.view bench.new) }
 {
     vectors_follow_their_rule();
     machines_follow_their_rule();
     tables_follow_their_rule();
     weights_decide();
+    path_is_one();
     tournaments_ascend();
     tournaments_are_true();
     let job = tournament_job(lab, notes);

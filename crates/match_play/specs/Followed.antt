@@ -3,7 +3,9 @@ use Rattle.std.specs.Prelude.{ℕ, ◌≡◌, ◌*◌, ◌≤◌, List, length}
 use Rattle.history_model.specs.Automaton.{Automaton}
 use Rattle.history_model.specs.History.{turned}
 use Rattle.history_model.specs.Path.{match_path}
-use Rattle.player_core.specs.State.{PlayerState}
+use Rattle.player_core.specs.State.{BenchState, PlayerState}
+use Rattle.player_core.specs.Sheet.{SheetData}
+use Rattle.player_core.specs.Entry.{entry_on}
 use Rattle.player_core.specs.Counts.{Advanced}
 use Rattle.match_play.specs.Fresh.{IsFresh}
 use Rattle.match_play.specs.Match.{after_steps}
@@ -25,3 +27,7 @@ pub record FollowedOnBench (a b : Automaton) (turns : ℕ) (left left_now right 
   pub fresh : (j : ℕ) → IsFresh a b turns j → j ≤ steps
   pub left_advanced : Advanced steps left left_now
   pub right_advanced : Advanced steps right right_now
+
+-- the same of a match of two sheets
+abbrev pub FollowedOn : BenchState → BenchState → SheetData → SheetData → ℕ → Type 0
+FollowedOn old new left right turns = FollowedOnBench (entry_on old left) (entry_on old right) turns old.left new.left old.right new.right

@@ -2,15 +2,15 @@
 ghost use Rattle.std.specs.Prelude.{◌≡◌, ◌*◌, ◌<◌, IfOk, length};
 ghost use Rattle.player_core.specs.State.{IsState, lasting_of, state_at};
 ghost use Rattle.player_core.specs.Fits.{Fits};
-ghost use Rattle.player_core.specs.Entry.{entry_automaton};
-ghost use Rattle.player_core.specs.Bench.{KeepsPlugs};
+ghost use Rattle.player_core.specs.Entry.{entry_on};
+ghost use Rattle.player_core.specs.Bench.{KeepsBench};
 ghost use Rattle.player_core.specs.Counts.{Advanced};
-ghost use Rattle.match_play.specs.Known.{IsKnown};
+ghost use Rattle.match_play.specs.Known.{IsKnownOn};
 
 use crate::on_bench::place_of;
 use history_model::{Grid, NoMemory};
 use player_core::laws::{counts_add_up, entries_play, keeping_lasts, one_change};
-use player_core::{Bench, Player, Seats, Sheet, Side, tabulate};
+use player_core::{Bench, Player, Seats, Seen, Sheet, Side, tabulate};
 use std::alloc::Global;
 
 // The number of rows of a player, which is valid.
@@ -58,16 +58,14 @@ pub fn tabulate_sheets(
     left: &Sheet,
     right: &Sheet,
 ) -> Result<(Grid, Grid), NoMemory>
-    requires fits { Fits (lasting_of (⟦<Side as Seats>⟧.seats bench.old.left)) (lasting_of (⟦<Side as Seats>⟧.seats bench.old.right)) }
-    requires left_known { IsKnown (lasting_of (⟦<Side as Seats>⟧.seats bench.old.left)) left.now }
-    requires right_known { IsKnown (lasting_of (⟦<Side as Seats>⟧.seats bench.old.left)) right.now }
-    ensures left_grid { IfOk result (λ grids. grids.0 ≡ entry_automaton (lasting_of (⟦<Side as Seats>⟧.seats bench.old.left)) left.now) }
-    ensures right_grid { IfOk result (λ grids. grids.1 ≡ entry_automaton (lasting_of (⟦<Side as Seats>⟧.seats bench.old.left)) right.now) }
-    ensures left_advanced { IfOk result (λ _. Advanced (4 * length (entry_automaton (lasting_of (⟦<Side as Seats>⟧.seats bench.old.left)) left.now).rows) (⟦<Side as Seats>⟧.seats bench.old.left) (⟦<Side as Seats>⟧.seats bench.new.left)) }
-    ensures right_advanced { IfOk result (λ _. Advanced (4 * length (entry_automaton (lasting_of (⟦<Side as Seats>⟧.seats bench.old.left)) right.now).rows) (⟦<Side as Seats>⟧.seats bench.old.right) (⟦<Side as Seats>⟧.seats bench.new.right)) }
-    ensures fits { Fits (lasting_of (⟦<Side as Seats>⟧.seats bench.new.left)) (lasting_of (⟦<Side as Seats>⟧.seats bench.new.right)) }
-    ensures left_kept { KeepsPlugs (lasting_of (⟦<Side as Seats>⟧.seats bench.old.left)) (lasting_of (⟦<Side as Seats>⟧.seats bench.new.left)) }
-    ensures right_kept { KeepsPlugs (lasting_of (⟦<Side as Seats>⟧.seats bench.old.right)) (lasting_of (⟦<Side as Seats>⟧.seats bench.new.right)) }
+    requires fits { Fits (⟦<Bench as Seen>⟧.view bench.old) }
+    requires left_known { IsKnownOn (⟦<Bench as Seen>⟧.view bench.old) left.now }
+    requires right_known { IsKnownOn (⟦<Bench as Seen>⟧.view bench.old) right.now }
+    ensures left_grid { IfOk result (λ grids. grids.0 ≡ entry_on (⟦<Bench as Seen>⟧.view bench.old) left.now) }
+    ensures right_grid { IfOk result (λ grids. grids.1 ≡ entry_on (⟦<Bench as Seen>⟧.view bench.old) right.now) }
+    ensures left_advanced { let old = ⟦<Bench as Seen>⟧.view bench.old in IfOk result (λ _. Advanced (4 * length (entry_on old left.now).rows) old.left (⟦<Bench as Seen>⟧.view bench.new).left) }
+    ensures right_advanced { let old = ⟦<Bench as Seen>⟧.view bench.old in IfOk result (λ _. Advanced (4 * length (entry_on old right.now).rows) old.right (⟦<Bench as Seen>⟧.view bench.new).right) }
+    ensures kept { KeepsBench (⟦<Bench as Seen>⟧.view bench.old) (⟦<Bench as Seen>⟧.view bench.new) }
 {
     keeping_lasts();
     entries_play();

@@ -1,27 +1,27 @@
 //! A long match of two sheets, on a bench.
 ghost use Rattle.std.specs.Prelude.{◌≡◌, ◌<◌, ◌≤◌, ◌*◌, ◌^◌, IfOk, length, slice_set};
 ghost use Rattle.history_model.specs.Automaton.{IsAutomaton, IsSure};
-ghost use Rattle.history_model.specs.Path.{match_path};
 ghost use Rattle.history_model.specs.Tally.{counts, total};
-ghost use Rattle.player_core.specs.State.{IsState, lasting_of, state_at};
+ghost use Rattle.player_core.specs.State.{IsState, state_at};
 ghost use Rattle.player_core.specs.Fits.{Fits};
-ghost use Rattle.player_core.specs.Entry.{entry_automaton};
-ghost use Rattle.player_core.specs.Bench.{KeepsPlugs};
-ghost use Rattle.match_play.specs.Known.{IsKnown};
-ghost use Rattle.match_play.specs.Followed.{FollowedOnBench, HasFollowed};
+ghost use Rattle.player_core.specs.Entry.{entry_on};
+ghost use Rattle.player_core.specs.Bench.{KeepsBench};
+ghost use Rattle.match_play.specs.Known.{IsKnownOn};
+ghost use Rattle.match_play.specs.Match.{automaton_at, path_at, path_on};
+ghost use Rattle.match_play.specs.Followed.{FollowedOn, HasFollowed};
 
 use crate::grids::rows_at;
 use crate::on_bench::place_of;
 use crate::{Trail, play_long};
 use history_model::{NoMemory, Tally};
 use player_core::laws::{counts_add_up, entries_play, keeping_lasts, one_change};
-use player_core::{Bench, Player, Seats, Sheet, Side};
+use player_core::{Bench, Player, Seen, Sheet};
 
 // The number of pairs of rows of a left and a right player of the bench, as they are loaded.
 fn pairs_at(bench: &Bench, i: usize, j: usize) -> u32
-    requires left { i < length (⟦<Side as Seats>⟧.seats bench.now.left) }
-    requires right { j < length (⟦<Side as Seats>⟧.seats bench.now.right) }
-    ensures { result ≡ length (state_at (⟦<Side as Seats>⟧.seats bench.now.left) i).lasting.automaton.rows * length (state_at (⟦<Side as Seats>⟧.seats bench.now.right) j).lasting.automaton.rows }
+    requires left { i < length (⟦<Bench as Seen>⟧.view bench.now).left }
+    requires right { j < length (⟦<Bench as Seen>⟧.view bench.now).right }
+    ensures { result ≡ length (automaton_at (⟦<Bench as Seen>⟧.view bench.now).left i).rows * length (automaton_at (⟦<Bench as Seen>⟧.view bench.now).right j).rows }
 {
     let rows = rows_at(&bench.left, i);
     let columns = rows_at(&bench.right, j);
@@ -31,20 +31,20 @@ fn pairs_at(bench: &Bench, i: usize, j: usize) -> u32
 // A long match between a left and a right player of the bench, as they are loaded.
 #[tactic(auto, using(player_core::proofs::Sides::map_read))]
 fn play_long_at(trail: &mut Trail, bench: &mut Bench, i: usize, j: usize, turns: u64) -> Tally
-    requires left { i < length (⟦<Side as Seats>⟧.seats bench.old.left) }
-    requires right { j < length (⟦<Side as Seats>⟧.seats bench.old.right) }
-    requires sure_left { IsSure (state_at (⟦<Side as Seats>⟧.seats bench.old.left) i).lasting.automaton }
-    requires sure_right { IsSure (state_at (⟦<Side as Seats>⟧.seats bench.old.right) j).lasting.automaton }
+    requires left { i < length (⟦<Bench as Seen>⟧.view bench.old).left }
+    requires right { j < length (⟦<Bench as Seen>⟧.view bench.old).right }
+    requires sure_left { IsSure (automaton_at (⟦<Bench as Seen>⟧.view bench.old).left i) }
+    requires sure_right { IsSure (automaton_at (⟦<Bench as Seen>⟧.view bench.old).right j) }
     requires turns { turns ≤ 10 ^ 12 }
-    requires room { length (state_at (⟦<Side as Seats>⟧.seats bench.old.left) i).lasting.automaton.rows * length (state_at (⟦<Side as Seats>⟧.seats bench.old.right) j).lasting.automaton.rows ≤ trail.old }
-    ensures tally { result ≡ counts (match_path (state_at (⟦<Side as Seats>⟧.seats bench.old.left) i).lasting.automaton (state_at (⟦<Side as Seats>⟧.seats bench.old.right) j).lasting.automaton turns) }
+    requires room { length (automaton_at (⟦<Bench as Seen>⟧.view bench.old).left i).rows * length (automaton_at (⟦<Bench as Seen>⟧.view bench.old).right j).rows ≤ trail.old }
+    ensures tally { result ≡ counts (path_at (⟦<Bench as Seen>⟧.view bench.old) i j turns) }
     ensures total { total result ≡ turns }
-    ensures followed { HasFollowed (state_at (⟦<Side as Seats>⟧.seats bench.old.left) i) (state_at (⟦<Side as Seats>⟧.seats bench.old.right) j) (state_at (⟦<Side as Seats>⟧.seats bench.new.left) i) (state_at (⟦<Side as Seats>⟧.seats bench.new.right) j) turns }
-    ensures left_others { ⟦<Side as Seats>⟧.seats bench.new.left ≡ slice_set (⟦<Side as Seats>⟧.seats bench.old.left) i (state_at (⟦<Side as Seats>⟧.seats bench.new.left) i) }
-    ensures right_others { ⟦<Side as Seats>⟧.seats bench.new.right ≡ slice_set (⟦<Side as Seats>⟧.seats bench.old.right) j (state_at (⟦<Side as Seats>⟧.seats bench.new.right) j) }
+    ensures followed { let old = ⟦<Bench as Seen>⟧.view bench.old in let new = ⟦<Bench as Seen>⟧.view bench.new in HasFollowed (state_at old.left i) (state_at old.right j) (state_at new.left i) (state_at new.right j) turns }
+    ensures left_others { (⟦<Bench as Seen>⟧.view bench.new).left ≡ slice_set (⟦<Bench as Seen>⟧.view bench.old).left i (state_at (⟦<Bench as Seen>⟧.view bench.new).left i) }
+    ensures right_others { (⟦<Bench as Seen>⟧.view bench.new).right ≡ slice_set (⟦<Bench as Seen>⟧.view bench.old).right j (state_at (⟦<Bench as Seen>⟧.view bench.new).right j) }
     ensures room { trail.new ≡ trail.old }
-    ensures left_valid { IsState (state_at (⟦<Side as Seats>⟧.seats bench.old.left) i) }
-    ensures right_valid { IsState (state_at (⟦<Side as Seats>⟧.seats bench.old.right) j) }
+    ensures left_valid { IsState (state_at (⟦<Bench as Seen>⟧.view bench.old).left i) }
+    ensures right_valid { IsState (state_at (⟦<Bench as Seen>⟧.view bench.old).right j) }
 {
     play_long(trail, &mut bench.left[i], &mut bench.right[j], turns)
 }
@@ -64,20 +64,18 @@ pub fn play_sheets_long(
     right: &Sheet,
     turns: u64,
 ) -> Result<Tally, NoMemory>
-    requires fits { Fits (lasting_of (⟦<Side as Seats>⟧.seats bench.old.left)) (lasting_of (⟦<Side as Seats>⟧.seats bench.old.right)) }
-    requires left_known { IsKnown (lasting_of (⟦<Side as Seats>⟧.seats bench.old.left)) left.now }
-    requires right_known { IsKnown (lasting_of (⟦<Side as Seats>⟧.seats bench.old.left)) right.now }
-    requires sure_left { IsSure (entry_automaton (lasting_of (⟦<Side as Seats>⟧.seats bench.old.left)) left.now) }
-    requires sure_right { IsSure (entry_automaton (lasting_of (⟦<Side as Seats>⟧.seats bench.old.left)) right.now) }
+    requires fits { Fits (⟦<Bench as Seen>⟧.view bench.old) }
+    requires left_known { IsKnownOn (⟦<Bench as Seen>⟧.view bench.old) left.now }
+    requires right_known { IsKnownOn (⟦<Bench as Seen>⟧.view bench.old) right.now }
+    requires sure_left { IsSure (entry_on (⟦<Bench as Seen>⟧.view bench.old) left.now) }
+    requires sure_right { IsSure (entry_on (⟦<Bench as Seen>⟧.view bench.old) right.now) }
     requires turns { turns ≤ 10 ^ 12 }
-    ensures tally { IfOk result (λ tally. tally ≡ counts (match_path (entry_automaton (lasting_of (⟦<Side as Seats>⟧.seats bench.old.left)) left.now) (entry_automaton (lasting_of (⟦<Side as Seats>⟧.seats bench.old.left)) right.now) turns)) }
+    ensures tally { IfOk result (λ tally. tally ≡ counts (path_on (⟦<Bench as Seen>⟧.view bench.old) left.now right.now turns)) }
     ensures total { IfOk result (λ tally. total tally ≡ turns) }
-    ensures left_valid { IfOk result (λ _. IsAutomaton (entry_automaton (lasting_of (⟦<Side as Seats>⟧.seats bench.old.left)) left.now)) }
-    ensures right_valid { IfOk result (λ _. IsAutomaton (entry_automaton (lasting_of (⟦<Side as Seats>⟧.seats bench.old.left)) right.now)) }
-    ensures followed { IfOk result (λ _. FollowedOnBench (entry_automaton (lasting_of (⟦<Side as Seats>⟧.seats bench.old.left)) left.now) (entry_automaton (lasting_of (⟦<Side as Seats>⟧.seats bench.old.left)) right.now) turns (⟦<Side as Seats>⟧.seats bench.old.left) (⟦<Side as Seats>⟧.seats bench.new.left) (⟦<Side as Seats>⟧.seats bench.old.right) (⟦<Side as Seats>⟧.seats bench.new.right)) }
-    ensures fits { Fits (lasting_of (⟦<Side as Seats>⟧.seats bench.new.left)) (lasting_of (⟦<Side as Seats>⟧.seats bench.new.right)) }
-    ensures left_kept { KeepsPlugs (lasting_of (⟦<Side as Seats>⟧.seats bench.old.left)) (lasting_of (⟦<Side as Seats>⟧.seats bench.new.left)) }
-    ensures right_kept { KeepsPlugs (lasting_of (⟦<Side as Seats>⟧.seats bench.old.right)) (lasting_of (⟦<Side as Seats>⟧.seats bench.new.right)) }
+    ensures left_valid { IfOk result (λ _. IsAutomaton (entry_on (⟦<Bench as Seen>⟧.view bench.old) left.now)) }
+    ensures right_valid { IfOk result (λ _. IsAutomaton (entry_on (⟦<Bench as Seen>⟧.view bench.old) right.now)) }
+    ensures followed { IfOk result (λ _. FollowedOn (⟦<Bench as Seen>⟧.view bench.old) (⟦<Bench as Seen>⟧.view bench.new) left.now right.now turns) }
+    ensures kept { KeepsBench (⟦<Bench as Seen>⟧.view bench.old) (⟦<Bench as Seen>⟧.view bench.new) }
     ensures trail_kept { trail.old ≤ trail.new }
 {
     entries_play();

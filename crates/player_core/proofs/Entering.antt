@@ -9,7 +9,7 @@ use Rattle.player_core.specs.declared.kind.Kind.TheVariants.{MemoryOne, Machine,
 use Rattle.player_core.specs.State.{Lasting, nobody, lasting_at}
 use Rattle.player_core.specs.Sheet.{SheetData}
 use Rattle.player_core.specs.AutomatonOf.{automaton_by, automaton_of}
-use Rattle.player_core.specs.Fits.{Fits, HaveKinds, NamesDiffer, IsPlaceOf, first_plug}
+use Rattle.player_core.specs.Fits.{SidesFit, HaveKinds, NamesDiffer, IsPlaceOf, first_plug}
 use Rattle.player_core.specs.Entry.{automaton_named, plug_automaton, entry_automaton}
 use Rattle.player_core.specs.Bench.{KeepsPlugs}
 use Rattle.player_core.specs.Laws.{EntriesPlay}
@@ -70,7 +70,7 @@ plugs_like old new h kinds =
           ap (λ p. p.automaton) (dropped new first_plug k) ∙ plug_kept old new h kinds (first_plug + k) (omega arith) (behind k lt) ∙ sym (ap (λ p. p.automaton) (dropped old first_plug k));
     }
 
-kept : (left right left_now : List Lasting) (sheet : SheetData) → Fits left right → KeepsPlugs left left_now → entry_automaton left_now sheet ≡ entry_automaton left sheet
+kept : (left right left_now : List Lasting) (sheet : SheetData) → SidesFit left right → KeepsPlugs left left_now → entry_automaton left_now sheet ≡ entry_automaton left sheet
 kept left right left_now sheet fits h =
     ap (automaton_of sheet) (named_like (drop first_plug left) (drop first_plug left_now) sheet.plug (plugs_like left left_now h fits.shape.left_kinds))
 
@@ -92,12 +92,12 @@ by_kind Machine sheet own other same = refl
 by_kind Lookup sheet own other same = refl
 by_kind Plug sheet own other same = same refl
 
-on_left : (left right : List Lasting) (sheet : SheetData) (k : ℕ) → Fits left right → IsPlaceOf left right sheet k → automaton_of sheet (lasting_at left k).automaton ≡ entry_automaton left sheet
+on_left : (left right : List Lasting) (sheet : SheetData) (k : ℕ) → SidesFit left right → IsPlaceOf left right sheet k → automaton_of sheet (lasting_at left k).automaton ≡ entry_automaton left sheet
 on_left left right sheet k fits p =
     by_kind sheet.kind sheet _ _ (λ plug.
     sym (plug_at left k sheet.plug fits.shape.left_names (plug_behind k (sym (fits.shape.left_kinds k p.left_inside) ∙ p.left_takes.kind ∙ plug)) p.left_inside (p.left_takes.name plug)))
 
-on_right : (left right : List Lasting) (sheet : SheetData) (k : ℕ) → Fits left right → IsPlaceOf left right sheet k → automaton_of sheet (lasting_at right k).automaton ≡ entry_automaton left sheet
+on_right : (left right : List Lasting) (sheet : SheetData) (k : ℕ) → SidesFit left right → IsPlaceOf left right sheet k → automaton_of sheet (lasting_at right k).automaton ≡ entry_automaton left sheet
 on_right left right sheet k fits p =
     by_kind sheet.kind sheet _ _ (λ plug.
     let low : first_plug ≤ k = plug_behind k (sym (fits.shape.left_kinds k p.left_inside) ∙ p.left_takes.kind ∙ plug) in

@@ -7,7 +7,7 @@ use Rattle.player_core.specs.declared.kind.Kind.TheVariants.{MemoryOne, Machine,
 use Rattle.player_core.specs.State.{Lasting, lasting_at}
 use Rattle.player_core.specs.Sheet.{SheetData, Takes}
 use Rattle.player_core.specs.Laws.{OnePlaceTakes}
-use Rattle.player_core.specs.Fits.{Fits, HaveKinds, NamesDiffer, NoPlugNamed, fixed_kinds, kind_of_place, first_plug}
+use Rattle.player_core.specs.Fits.{SidesFit, HaveKinds, NamesDiffer, NoPlugNamed, fixed_kinds, kind_of_place, first_plug}
 
 -- a player of a sheet's kind takes it, where the kind is no plug
 takes_kind : (left : List Lasting) (sheet : SheetData) (k : ℕ) → HaveKinds left → k < length left → kind_of_place k ≡ sheet.kind → sheet.kind ≢ Plug → Takes (lasting_at left k) sheet
@@ -31,7 +31,7 @@ pub plug_of_place : (k : ℕ) → first_plug ≤ k → kind_of_place k ≡ Plug
 plug_of_place k low = get_or_past fixed_kinds k Plug low
 
 -- a sheet that no player takes is a plug that no player is named as
-pub none_takes : (left right : List Lasting) (sheet : SheetData) (k : ℕ) → Fits left right → length left ≤ k → ((j : ℕ) → j < k → ¬ Takes (lasting_at left j) sheet) → NoPlugNamed left sheet
+pub none_takes : (left right : List Lasting) (sheet : SheetData) (k : ℕ) → SidesFit left right → length left ≤ k → ((j : ℕ) → j < k → ¬ Takes (lasting_at left j) sheet) → NoPlugNamed left sheet
 none_takes left right sheet k fits whole none =
     let inside : (j : ℕ) → j < length left → ¬ Takes (lasting_at left j) sheet = λ j h. none j (omega (arith, h, whole)) in
     let plug : sheet.kind ≡ Plug =

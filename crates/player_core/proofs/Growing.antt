@@ -21,7 +21,7 @@ full_stays old new h full =
     (full.0, omega (arith, h.length_is, full.1), omega (arith, h.grown full.0, full.2))
 
 none : (counts : List ℕ) → Grew 0 counts counts
-none counts = record { none_fell = record { length_is = refl; grown = λ k. omega arith }; total = inl (omega arith) }
+none counts = record { none_fell = record { length_is = refl; grown = λ k. omega arith }; most = omega arith; total = inl (omega arith) }
 
 total_both : (j k : ℕ) (first second third : List ℕ) → (sum second ≡ sum first + j) ⊎ IsFull second → (sum third ≡ sum second + k) ⊎ IsFull third → NoneFell second third → (sum third ≡ sum first + (j + k)) ⊎ IsFull third
 total_both j k first second third (inl h) (inl i) n = inl (omega (arith, h, i))
@@ -31,6 +31,7 @@ total_both j k first second third h (inr i) n = inr i
 both : (j k : ℕ) (first second third : List ℕ) → Grew j first second → Grew k second third → Grew (j + k) first third
 both j k first second third h i = record {
   none_fell = none_fell_both first second third h.none_fell i.none_fell;
+  most = omega (arith, h.most, i.most);
   total = total_both j k first second third h.total i.total i.none_fell;
 }
 
@@ -75,12 +76,16 @@ grown_set (c ∷ cs) (suc k) x h (suc j) = grown_set cs k x h j
 more_cases : (n k : ℕ) → n < 2 ^ 64 → (more n k ≡ n + k) ⊎ (more n k ≡ 2 ^ 64 - 1)
 more_cases n k h = grind arith
 
+more_most : (n k : ℕ) → more n k ≤ n + k
+more_most n k = omega arith
+
 -- one count of a list grew by n
 grew_set : (counts : List ℕ) (k n x : ℕ) → k < length counts → slice_index counts k < 2 ^ 64 → x ≡ more (slice_index counts k) n → Grew n counts (slice_set counts k x)
 grew_set counts k n x h fits e =
     let here : slice_index (slice_set counts k x) k ≡ x = get_or-set_same counts k x 0 h in
     record {
       none_fell = record { length_is = length-set counts k x; grown = grown_set counts k x (omega (arith, fits, e)) };
+      most = omega (arith, sum_set counts k x h, e, more_most (slice_index counts k) n);
       total = elim (more_cases (slice_index counts k) n fits) as (λ _. (sum (slice_set counts k x) ≡ sum counts + n) ⊎ IsFull (slice_set counts k x)) [
         | inl m ↦ inl (omega (arith, sum_set counts k x h, e, m))
         | inr m ↦ inr (k, omega (arith, h, length-set counts k x), omega (arith, here, e, m))

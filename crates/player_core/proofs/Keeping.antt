@@ -7,7 +7,7 @@ use Rattle.history_model.specs.Automaton.{Automaton}
 use Rattle.player_core.specs.State.{PlayerState, Lasting, lasting_at, lasting_of, state_at}
 use Rattle.player_core.specs.Sheet.{SheetData, Takes}
 use Rattle.player_core.specs.AutomatonOf.{automaton_by}
-use Rattle.player_core.specs.Fits.{Fits, IsPlaceOf, HaveKinds, NamesDiffer, first_plug}
+use Rattle.player_core.specs.Fits.{SidesFit, IsPlaceOf, HaveKinds, NamesDiffer, first_plug}
 use Rattle.player_core.specs.Bench.{IsKept, KeepsPlugs}
 use Rattle.player_core.specs.Laws.{KeepingLasts, LoadKeeps}
 use Rattle.player_core.proofs.Fitting.{plug_of_place}
@@ -46,7 +46,7 @@ names_kept old new h names j k low less lt e =
 pub plug_kept : (old new : List Lasting) → KeepsPlugs old new → HaveKinds old → (k : ℕ) → first_plug ≤ k → k < length old → (lasting_at new k).automaton ≡ (lasting_at old k).automaton
 plug_kept old new h kinds k low lt = (h.places k lt).automaton (kinds k lt ∙ plug_of_place k low)
 
-fits : (left right left_now right_now : List Lasting) → KeepsPlugs left left_now → KeepsPlugs right right_now → Fits left right → Fits left_now right_now
+fits : (left right left_now right_now : List Lasting) → KeepsPlugs left left_now → KeepsPlugs right right_now → SidesFit left right → SidesFit left_now right_now
 fits left right left_now right_now hl hr f =
     let s = f.shape in
     record {

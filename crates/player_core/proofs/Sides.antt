@@ -65,3 +65,7 @@ restarted old new e =
       turns = map_unseen at_start (λ state. state.turns) old (λ b. refl);
       starts = start_at old;
     })
+
+-- what lasted before a restart lasts after it
+pub lasting_through : (old mid new : List PlayerState) → IsRestarted mid new → lasting_of mid ≡ lasting_of old → lasting_of new ≡ lasting_of old
+lasting_through old mid new restarted same = restarted.lasting ∙ same

@@ -1,10 +1,10 @@
 -- The automaton of a sheet, and what loading it does.
-use Rattle.std.specs.Prelude.{ℕ, ◌+◌, ◌-◌, ◌*◌, ◌/◌, ◌%◌, ◌∷◌, map, slice_index}
+use Rattle.std.specs.Prelude.{ℕ, ◌+◌, ◌-◌, ◌*◌, ◌/◌, ◌%◌, ◌∷◌, List, map, slice_index, slice_set}
 use Rattle.std.specs.List.{range_with_len}
 use Rattle.history_model.specs.Automaton.{Automaton, Row}
 use Rattle.player_core.specs.declared.kind.Kind.{Kind}
 use Rattle.player_core.specs.declared.kind.Kind.TheVariants.{MemoryOne, Machine, Lookup, Plug}
-use Rattle.player_core.specs.State.{PlayerState}
+use Rattle.player_core.specs.State.{PlayerState, state_at}
 use Rattle.player_core.specs.Sheet.{SheetData, states}
 use Rattle.player_core.specs.Table.{table_automaton}
 
@@ -62,3 +62,7 @@ abbrev pub loaded : PlayerState → SheetData → PlayerState
 loaded state sheet =
     let automaton = automaton_of sheet state.lasting.automaton in
     record state { lasting = record state.lasting { automaton = automaton }; mark = automaton.start }
+
+-- a side whose player at a place has taken a sheet
+abbrev pub loaded_at : List PlayerState → ℕ → SheetData → List PlayerState
+loaded_at states place sheet = slice_set states place (loaded (state_at states place) sheet)

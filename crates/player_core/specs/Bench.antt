@@ -4,8 +4,8 @@ use Rattle.std.specs.List.{list_all}
 use Rattle.history_model.specs.Automaton.{Automaton}
 use Rattle.player_core.specs.declared.kind.Kind.TheVariants.{Plug}
 use Rattle.player_core.specs.declared.bench.PlugNote.{PlugNote}
-use Rattle.player_core.specs.State.{PlayerState, Lasting, AreAtStart, lasting_at, lasting_of}
-use Rattle.player_core.specs.Fits.{first_plug}
+use Rattle.player_core.specs.State.{BenchState, PlayerState, Lasting, AreAtStart, lasting_at, lasting_of}
+use Rattle.player_core.specs.Fits.{Fits, first_plug}
 use Rattle.player_core.specs.Counts.{turns_of}
 
 -- a player later on: of the same kind and name, and a plug has the same automaton
@@ -18,6 +18,27 @@ pub record IsKept (old new : Lasting) : Type 0 where
 pub record KeepsPlugs (old new : List Lasting) : Type 0 where
   pub length_is : length new ≡ length old
   pub places : (k : ℕ) → k < length old → IsKept (lasting_at old k) (lasting_at new k)
+
+-- a bench later on: it fits, with the same plugs
+pub record KeepsBench (old new : BenchState) : Type 0 where
+  pub fits : Fits new
+  pub left_kept : KeepsPlugs (lasting_of old.left) (lasting_of new.left)
+  pub right_kept : KeepsPlugs (lasting_of old.right) (lasting_of new.right)
+
+-- what lasts of every player of a bench is as before
+pub record SameLasting (old new : BenchState) : Type 0 where
+  pub left : lasting_of new.left ≡ lasting_of old.left
+  pub right : lasting_of new.right ≡ lasting_of old.right
+
+-- no player of a bench was advanced
+pub record SameTurns (old new : BenchState) : Type 0 where
+  pub left : turns_of new.left ≡ turns_of old.left
+  pub right : turns_of new.right ≡ turns_of old.right
+
+-- every player of a bench stands at its start
+pub record StandsAtStart (bench : BenchState) : Type 0 where
+  pub left : AreAtStart bench.left
+  pub right : AreAtStart bench.right
 
 -- a side after each player was resumed at its start
 pub record IsRestarted (old new : List PlayerState) : Type 0 where

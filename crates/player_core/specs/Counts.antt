@@ -25,9 +25,10 @@ pub record NoneFell (old new : List ℕ) : Type 0 where
   pub length_is : length new ≡ length old
   pub grown : (k : ℕ) → slice_index old k ≤ slice_index new k
 
--- the counts grew by k in all, or one is full
+-- the counts grew by k in all, or by less where one is full
 pub record Grew (k : ℕ) (old new : List ℕ) : Type 0 where
   pub none_fell : NoneFell old new
+  pub most : sum new ≤ sum old + k
   pub total : (sum new ≡ sum old + k) ⊎ IsFull new
 
 pub record GrewAtLeast (k : ℕ) (old new : List ℕ) : Type 0 where

@@ -2,7 +2,7 @@
 use Rattle.std.specs.Prelude.{ℕ, List, [], ◌∷◌, drop, if◌then◌else◌}
 use Rattle.std.specs.Str.{bytes_eq}
 use Rattle.history_model.specs.Automaton.{Automaton}
-use Rattle.player_core.specs.State.{Lasting, nobody}
+use Rattle.player_core.specs.State.{BenchState, Lasting, nobody, players_of}
 use Rattle.player_core.specs.Sheet.{SheetData}
 use Rattle.player_core.specs.AutomatonOf.{automaton_of}
 use Rattle.player_core.specs.Fits.{first_plug}
@@ -19,3 +19,7 @@ plug_automaton players name = automaton_named (drop first_plug players) name
 -- what a sheet plays: a plug by its name, every other sheet by itself
 abbrev pub entry_automaton : List Lasting → SheetData → Automaton
 entry_automaton players sheet = automaton_of sheet (plug_automaton players sheet.plug)
+
+-- what a sheet plays on a bench
+abbrev pub entry_on : BenchState → SheetData → Automaton
+entry_on bench sheet = entry_automaton (players_of bench) sheet

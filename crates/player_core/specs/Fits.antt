@@ -2,7 +2,7 @@
 use Rattle.std.specs.Prelude.{ℕ, ◌≡◌, ◌≢◌, ◌+◌, ◌≤◌, ◌<◌, List, [], ◌∷◌, length, slice_index_or}
 use Rattle.player_core.specs.declared.kind.Kind.{Kind}
 use Rattle.player_core.specs.declared.kind.Kind.TheVariants.{MemoryOne, Machine, Lookup, Plug}
-use Rattle.player_core.specs.State.{Lasting, lasting_at}
+use Rattle.player_core.specs.State.{BenchState, Lasting, lasting_at, lasting_of}
 use Rattle.player_core.specs.Sheet.{SheetData, Takes}
 
 -- the kinds of the first places, in this order; behind them stand plugs
@@ -48,10 +48,14 @@ pub record HaveShape (left right : List Lasting) : Type 0 where
   pub left_names : NamesDiffer left
   pub right_names : NamesDiffer right
 
--- a bench fits
-pub record Fits (left right : List Lasting) : Type 0 where
+-- the two sides of a bench fit
+pub record SidesFit (left right : List Lasting) : Type 0 where
   pub shape : HaveShape left right
   pub twins : AreTwins left right
+
+-- a bench fits
+abbrev pub Fits : BenchState → Type 0
+Fits bench = SidesFit (lasting_of bench.left) (lasting_of bench.right)
 
 -- the sheet is a plug whose name no object has
 pub record NoPlugNamed (left : List Lasting) (sheet : SheetData) : Type 0 where
@@ -64,3 +68,7 @@ pub record IsPlaceOf (left right : List Lasting) (sheet : SheetData) (k : ℕ) :
   pub right_inside : k < length right
   pub left_takes : Takes (lasting_at left k) sheet
   pub right_takes : Takes (lasting_at right k) sheet
+
+-- a place of a bench takes the sheet
+abbrev pub IsPlaceOn : BenchState → SheetData → ℕ → Type 0
+IsPlaceOn bench sheet k = IsPlaceOf (lasting_of bench.left) (lasting_of bench.right) sheet k

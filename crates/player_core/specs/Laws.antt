@@ -5,7 +5,7 @@ use Rattle.history_model.specs.History.{History, walk}
 use Rattle.player_core.specs.State.{PlayerState, Lasting, more, after_plays, state_at, lasting_at, lasting_of}
 use Rattle.player_core.specs.Sheet.{SheetData, Takes}
 use Rattle.player_core.specs.AutomatonOf.{automaton_of, loaded}
-use Rattle.player_core.specs.Fits.{Fits, IsPlaceOf}
+use Rattle.player_core.specs.Fits.{SidesFit, IsPlaceOf}
 use Rattle.player_core.specs.Entry.{entry_automaton}
 use Rattle.player_core.specs.Bench.{IsKept, KeepsPlugs, is_sure}
 use Rattle.player_core.specs.Counts.{Grew, GrewAtLeast, Advanced, ResumedAtLeast}
@@ -20,7 +20,7 @@ PlaysWalk =
 -- the law: one place of a bench that fits takes a sheet, at most
 abbrev pub OnePlaceTakes : Type 0
 OnePlaceTakes =
-    (left right : List Lasting) (sheet : SheetData) (j k : ℕ) → Fits left right → j < length left → k < length left →
+    (left right : List Lasting) (sheet : SheetData) (j k : ℕ) → SidesFit left right → j < length left → k < length left →
     Takes (lasting_at left j) sheet → Takes (lasting_at left k) sheet → j ≡ k
 
 -- the laws of a load: a player that takes the sheet keeps its kind and its name, and a plug its automaton
@@ -33,17 +33,17 @@ pub record KeepingLasts : Type 0 where
   pub none : (players : List Lasting) → KeepsPlugs players players
   pub both : (first second third : List Lasting) → KeepsPlugs first second → KeepsPlugs second third → KeepsPlugs first third
   pub fits : (left right left_now right_now : List Lasting) → KeepsPlugs left left_now → KeepsPlugs right right_now
-      → Fits left right → Fits left_now right_now
+      → SidesFit left right → SidesFit left_now right_now
   pub place : (left right left_now right_now : List Lasting) (sheet : SheetData) (k : ℕ) → KeepsPlugs left left_now
       → KeepsPlugs right right_now → IsPlaceOf left right sheet k → IsPlaceOf left_now right_now sheet k
 
 -- the laws of what a sheet plays on a bench that fits: it stays, and each side's player that takes the sheet plays it from then on
 pub record EntriesPlay : Type 0 where
-  pub kept : (left right left_now : List Lasting) (sheet : SheetData) → Fits left right → KeepsPlugs left left_now →
+  pub kept : (left right left_now : List Lasting) (sheet : SheetData) → SidesFit left right → KeepsPlugs left left_now →
       entry_automaton left_now sheet ≡ entry_automaton left sheet
-  pub left : (left right : List Lasting) (sheet : SheetData) (k : ℕ) → Fits left right
+  pub left : (left right : List Lasting) (sheet : SheetData) (k : ℕ) → SidesFit left right
       → IsPlaceOf left right sheet k → automaton_of sheet (lasting_at left k).automaton ≡ entry_automaton left sheet
-  pub right : (left right : List Lasting) (sheet : SheetData) (k : ℕ) → Fits left right
+  pub right : (left right : List Lasting) (sheet : SheetData) (k : ℕ) → SidesFit left right
       → IsPlaceOf left right sheet k → automaton_of sheet (lasting_at right k).automaton ≡ entry_automaton left sheet
 
 -- the laws of a change at one place: what lasts, what is kept, and the counts

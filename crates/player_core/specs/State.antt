@@ -75,3 +75,12 @@ IsAtStart state = state.mark ≡ state.lasting.automaton.start
 -- every player of a side stands at its start
 abbrev pub AreAtStart : List PlayerState → Type 0
 AreAtStart states = (k : ℕ) → k < length states → IsAtStart (state_at states k)
+
+-- a bench as contracts see it: the players of each side, in order of place
+pub record BenchState : Type 0 where
+  pub left : List PlayerState
+  pub right : List PlayerState
+
+-- what lasts of the players of a bench; its left side stands for both, since the plugs of a bench that fits are the same
+abbrev pub players_of : BenchState → List Lasting
+players_of bench = lasting_of bench.left

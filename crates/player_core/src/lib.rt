@@ -11,7 +11,7 @@ mod reading;
 mod sheet;
 mod side;
 
-pub use bench::{Bench, PlugNote};
+pub use bench::{Bench, PlugNote, Seen};
 pub use kind::Kind;
 pub use names::no_name;
 pub use places::{load_place, restart};

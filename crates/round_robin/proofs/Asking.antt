@@ -1,12 +1,12 @@
 -- Players that are read: what they were asked, and what they expect.
-use Rattle.std.proofs.Common.{ℕ, ◌≡◌, ◌⊎◌, ◌+◌, ◌*◌, ◌≤◌, List, length, inl, inr, subst, arith}
+use Rattle.std.proofs.Common.{ℕ, ◌≡◌, ◌+◌, ◌*◌, ◌≤◌, List, length, inl, inr, subst, arith}
 use Rattle.std.specs.List.{sum}
 use Rattle.history_model.specs.Automaton.{Automaton}
 use Rattle.history_model.specs.Game.{Payoffs}
 use Rattle.history_model.specs.Noise.{FlipRate}
 use Rattle.match_play.specs.declared.line.MatchLine.{MatchLine}
 use Rattle.match_play.specs.Fresh.{IsFresh}
-use Rattle.player_core.specs.Counts.{Grew, IsFull}
+use Rattle.player_core.specs.Counts.{Grew}
 use Rattle.product_chain.specs.Expected.{IsSureMatch}
 use Rattle.round_robin.specs.Asked.{Turns, MadeTurns, IsAsked, most_advances}
 use Rattle.round_robin.specs.Line.{IsExpected, IsMixed}
@@ -23,8 +23,8 @@ made_turns m n before now left right =
     ]
 
 -- a side made n advances
-at_most : (n most : ℕ) (old new : List ℕ) → n ≤ most → Grew n old new → (sum new ≤ sum old + most) ⊎ IsFull new
-at_most n most old new few grew = elim grew.total [ inl more ↦ inl (omega (arith, more, few)) | inr full ↦ inr full ]
+at_most : (n most : ℕ) (old new : List ℕ) → n ≤ most → Grew n old new → sum new ≤ sum old + most
+at_most n most old new few grew = omega (arith, few, grew.most)
 
 both_made : (j steps : ℕ) (before now : Turns) → j ≤ steps → Grew steps before.left now.left → Grew steps before.right now.right → MadeTurns (2 * j) before now
 both_made j steps before now fresh left right =

@@ -83,21 +83,14 @@ ask_more strategies turns (p ∷ ps) pair n h =
 pub none_asked : (strategies : List Strategy) (turns : ℕ) (before : Turns) → AreAsked strategies turns [] before before
 none_asked strategies turns before = record {
   least = λ n none. inl (omega (arith, none));
-  most = record { left = inl (omega arith); right = inl (omega arith) };
+  most = record { left = omega arith; right = omega arith };
 }
 
 -- no more than so many, with one match more
-
-some_more : (m k : ℕ) (old mid new : List ℕ) → NoneFell mid new → (sum mid ≤ sum old + m) ⊎ IsFull mid → (sum new ≤ sum mid + k) ⊎ IsFull new
-    → (sum new ≤ sum old + (m + k)) ⊎ IsFull new
-some_more m k old mid new fell (inr full) more = inr (full_stays mid new fell full)
-some_more m k old mid new fell (inl few) (inr full) = inr full
-some_more m k old mid new fell (inl few) (inl more) = inl (omega (arith, few, more))
-
-most_more : (m k : ℕ) (before mid now : Turns) → AtMostTurns m before mid → AtMostTurns k mid now → NoTurnsFell mid now → AtMostTurns (m + k) before now
-most_more m k before mid now so_far here fell = record {
-  left = some_more m k before.left mid.left now.left fell.left so_far.left here.left;
-  right = some_more m k before.right mid.right now.right fell.right so_far.right here.right;
+most_more : (m k : ℕ) (before mid now : Turns) → AtMostTurns m before mid → AtMostTurns k mid now → AtMostTurns (m + k) before now
+most_more m k before mid now so_far here = record {
+  left = omega (arith, so_far.left, here.left);
+  right = omega (arith, so_far.right, here.right);
 }
 
 most_push : (strategies : List Strategy) (pairs : List (ℕ × ℕ)) (pair : ℕ × ℕ) → most_for strategies (pairs ++ pair ∷ []) ≡ most_for strategies pairs + most_of strategies pair
@@ -117,5 +110,5 @@ asked_more strategies turns k pairs before mid now inside so_far here fell =
           let Q : ℕ → Type 0 = λ all. MadeTurns all before now in
           subst Q (sym m.together) (made_more m.first m.last before mid now (so_far.least m.first m.firsts_ask) (here.least m.last m.last_asks) fell);
       most = subst R (sym (ap (most_for strategies) cut ∙ most_push strategies (take k pairs) (pair_at pairs k)))
-          (most_more (most_for strategies (take k pairs)) (most_of strategies (pair_at pairs k)) before mid now so_far.most here.most fell);
+          (most_more (most_for strategies (take k pairs)) (most_of strategies (pair_at pairs k)) before mid now so_far.most here.most);
     }

@@ -7,7 +7,7 @@ use Rattle.history_model.specs.Automaton.{Automaton}
 use Rattle.history_model.specs.Game.{Payoffs}
 use Rattle.player_core.specs.State.{Lasting, PlayerState, lasting_of}
 use Rattle.player_core.specs.Sheet.{SheetData}
-use Rattle.player_core.specs.Fits.{Fits}
+use Rattle.player_core.specs.Fits.{SidesFit}
 use Rattle.player_core.specs.Bench.{KeepsPlugs}
 use Rattle.player_core.specs.Counts.{turns_of}
 use Rattle.player_core.specs.Laws.{EntriesPlay, KeepingLasts}
@@ -30,7 +30,7 @@ known_kept old new sheet keeps known absent = known (record {
       absent.none k low (omega (arith, inside, keeps.length_is)) ((keeps.places k inside).name ∙ named);
 })
 
-module _ (law : EntriesPlay) (left right left_now : List Lasting) (fits : Fits left right) (keeps : KeepsPlugs left left_now) where
+module _ (law : EntriesPlay) (left right left_now : List Lasting) (fits : SidesFit left right) (keeps : KeepsPlugs left left_now) where
   strategy_kept : (c : Contestant) → strategy_of left_now c ≡ strategy_of left c
   strategy_kept c =
       ap (λ (a : Automaton). record { automaton = a; noise = c.noise.now }) (law.kept left right left_now c.sheet.now fits keeps)
@@ -63,7 +63,7 @@ pub record ArePlayed (contestants : List Contestant) (game : Payoffs) (turns : �
 
 -- what a match asks for, from the two sides as they were read
 pub pair_asked_on : (players right : List Lasting) (contestants : List Contestant) (pair : ℕ × ℕ) (turns : ℕ) (left_sheet right_sheet : SheetData) (left_noise right_noise : FlipRate) (sure : Bool) (before now : Turns)
-    → Fits players right
+    → SidesFit players right
     → ((players : List Lasting) → strategy_at (strategies_of players contestants) pair.0 ≡ record { automaton = entry_automaton players left_sheet; noise = left_noise })
     → ((players : List Lasting) → strategy_at (strategies_of players contestants) pair.1 ≡ record { automaton = entry_automaton players right_sheet; noise = right_noise })
     → ((players : List Lasting) → All (IsContestant players) contestants → IsTrue sure ↔ IsSurePair (strategies_of players contestants) pair)
@@ -114,7 +114,7 @@ pub record IsPlayedOn (contestants : List Contestant) (game : Payoffs) (turns : 
   pub fell : NoTurnsFell (record { left = turns_of left; right = turns_of right }) (record { left = turns_of left_new; right = turns_of right_new })
 
 pub played_more : KeepingLasts → EntriesPlay → (contestants : List Contestant) (game : Payoffs) (turns k : ℕ) (pairs : List (ℕ × ℕ)) (lines more : List MatchLine) (line : MatchLine) (left right left_now right_now left_new right_new : List PlayerState)
-    → Fits (lasting_of left) (lasting_of right) → k < length pairs → more ≡ lines ++ line ∷ []
+    → SidesFit (lasting_of left) (lasting_of right) → k < length pairs → more ≡ lines ++ line ∷ []
     → ArePlayed contestants game turns pairs k lines left right left_now right_now
     → IsPlayedOn contestants game turns (pair_at pairs k) line left_now right_now left_new right_new
     → ArePlayed contestants game turns pairs (k + 1) more left right left_new right_new
@@ -138,7 +138,7 @@ played_more keeping law contestants game turns k pairs lines more line left righ
 
 -- the turns of a pair are few on the bench as it is now
 pub few_turns_kept : EntriesPlay → (contestants : List Contestant) (turns k : ℕ) (pairs : List (ℕ × ℕ)) (left right left_now : List Lasting)
-    → Fits left right → KeepsPlugs left left_now → k < length pairs
+    → SidesFit left right → KeepsPlugs left left_now → k < length pairs
     → All (AreFewTurns (strategies_of left contestants) turns) pairs → AreFewTurns (strategies_of left_now contestants) turns (pair_at pairs k)
 few_turns_kept law contestants turns k pairs left right left_now fits keeps inside few =
     let P : List Strategy → Type 0 = λ ss. AreFewTurns ss turns (pair_at pairs k) in

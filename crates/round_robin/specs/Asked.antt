@@ -2,7 +2,8 @@
 use Rattle.std.specs.Prelude.{ℕ, ◌≡◌, ◌+◌, ◌*◌, ◌≤◌, ◌⊎◌, List, [], ◌∷◌, length, sum}
 use Rattle.history_model.specs.Automaton.{Automaton}
 use Rattle.history_model.specs.Noise.{FlipRate}
-use Rattle.player_core.specs.Counts.{IsFull, NoneFell}
+use Rattle.player_core.specs.Counts.{IsFull, NoneFell, turns_of}
+use Rattle.player_core.specs.State.{BenchState}
 use Rattle.match_play.specs.Fresh.{IsFresh}
 use Rattle.product_chain.specs.Expected.{IsSureMatch}
 use Rattle.round_robin.specs.Contest.{Strategy, strategy_at}
@@ -11,6 +12,10 @@ use Rattle.round_robin.specs.Contest.{Strategy, strategy_at}
 pub record Turns : Type 0 where
   pub left : List ℕ
   pub right : List ℕ
+
+-- those of a bench
+abbrev pub bench_turns : BenchState → Turns
+bench_turns bench = record { left = turns_of bench.left; right = turns_of bench.right }
 
 -- both sides together made at least so many advances, or some player's count is full
 abbrev pub MadeTurns : ℕ → Turns → Turns → Type 0
@@ -21,10 +26,10 @@ MadeTurns n before now =
 abbrev pub most_advances : Automaton → Automaton → ℕ
 most_advances a b = 2 * (length a.rows * length b.rows) + 4 * (length a.rows + length b.rows)
 
--- no side made more than n advances, or some player's count is full
+-- no side made more than n advances
 pub record AtMostTurns (n : ℕ) (before now : Turns) : Type 0 where
-  pub left : (sum now.left ≤ sum before.left + n) ⊎ IsFull now.left
-  pub right : (sum now.right ≤ sum before.right + n) ⊎ IsFull now.right
+  pub left : sum now.left ≤ sum before.left + n
+  pub right : sum now.right ≤ sum before.right + n
 
 -- the players of a match were asked: of a sure one as long as it met new pairs of rows, of any other each row's next rows; and
 -- not much more often

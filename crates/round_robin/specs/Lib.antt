@@ -5,3 +5,4 @@ pub mod Line
 pub mod Ranks
 pub mod Totals
 pub mod Truth
+pub mod OnBench

@@ -1,22 +1,18 @@
 //! The line of one match on a bench.
 ghost use Rattle.std.specs.Prelude.{◌≡◌, ◌*◌, ◌≤◌, ◌^◌, pos, ◌↔◌, false, IfOk, IsTrue};
-ghost use Rattle.player_core.specs.State.{lasting_of};
 ghost use Rattle.player_core.specs.Fits.{Fits};
-ghost use Rattle.player_core.specs.Entry.{entry_automaton};
-ghost use Rattle.player_core.specs.Bench.{KeepsPlugs};
-ghost use Rattle.player_core.specs.Counts.{turns_of};
+ghost use Rattle.player_core.specs.Bench.{KeepsBench};
 ghost use Rattle.fixed_span.specs.Span.{point, score_units};
-ghost use Rattle.match_play.specs.Known.{IsKnown};
-ghost use Rattle.product_chain.specs.Expected.{IsPayable, IsSureMatch};
-ghost use Rattle.round_robin.specs.Asked.{IsAsked, NoTurnsFell};
-ghost use Rattle.round_robin.specs.Laws.{AreSides, IsInRange, IsScoreSpan};
-ghost use Rattle.round_robin.specs.Line.{IsLineOf};
+ghost use Rattle.match_play.specs.Known.{IsKnownOn};
+ghost use Rattle.product_chain.specs.Expected.{IsPayable};
+ghost use Rattle.round_robin.specs.Laws.{IsInRange, IsScoreSpan};
+ghost use Rattle.round_robin.specs.OnBench.{AreSidesOn, IsAskedOn, IsLineOn, IsSureOn, NoneFellOn};
 
 use crate::Entrant;
 use fixed_span::Span;
 use history_model::{Game, NoMemory};
 use match_play::{MatchLine, Trail, play_sheets_long, tabulate_sheets};
-use player_core::{Bench, Player, Seats, Side};
+use player_core::{Bench, Player, Seen};
 use product_chain::expect;
 use std::alloc::Global;
 
@@ -50,22 +46,20 @@ fn played_line(
     game: &Game,
     turns: u64,
 ) -> Result<MatchLine, NoMemory>
-    requires fits { Fits (lasting_of (⟦<Side as Seats>⟧.seats bench.old.left)) (lasting_of (⟦<Side as Seats>⟧.seats bench.old.right)) }
-    requires left_known { IsKnown (lasting_of (⟦<Side as Seats>⟧.seats bench.old.left)) left.now.sheet.now }
-    requires right_known { IsKnown (lasting_of (⟦<Side as Seats>⟧.seats bench.old.left)) right.now.sheet.now }
+    requires fits { Fits (⟦<Bench as Seen>⟧.view bench.old) }
+    requires left_known { IsKnownOn (⟦<Bench as Seen>⟧.view bench.old) left.now.sheet.now }
+    requires right_known { IsKnownOn (⟦<Bench as Seen>⟧.view bench.old) right.now.sheet.now }
     requires few_turns { turns ≤ 10 ^ 12 }
-    requires sure { IsSureMatch (entry_automaton (lasting_of (⟦<Side as Seats>⟧.seats bench.old.left)) left.now.sheet.now) left.now.noise (entry_automaton (lasting_of (⟦<Side as Seats>⟧.seats bench.old.left)) right.now.sheet.now) right.now.noise }
-    ensures line { IfOk result (IsLineOf (entry_automaton (lasting_of (⟦<Side as Seats>⟧.seats bench.old.left)) left.now.sheet.now) left.now.noise (entry_automaton (lasting_of (⟦<Side as Seats>⟧.seats bench.old.left)) right.now.sheet.now) right.now.noise game.now turns) }
+    requires sure { IsSureOn (⟦<Bench as Seen>⟧.view bench.old) left.now right.now }
+    ensures line { IfOk result (IsLineOn (⟦<Bench as Seen>⟧.view bench.old) left.now right.now game.now turns) }
     ensures left_place { IfOk result (λ line. line.left ≡ left.now.place) }
     ensures right_place { IfOk result (λ line. line.right ≡ right.now.place) }
     ensures turns { IfOk result (λ line. line.turns ≡ turns) }
     ensures range { IfOk result (IsInRange turns) }
-    ensures sides { IfOk result (λ _. AreSides (entry_automaton (lasting_of (⟦<Side as Seats>⟧.seats bench.old.left)) left.now.sheet.now) left.now.noise (entry_automaton (lasting_of (⟦<Side as Seats>⟧.seats bench.old.left)) right.now.sheet.now) right.now.noise) }
-    ensures asked { IfOk result (λ _. IsAsked (entry_automaton (lasting_of (⟦<Side as Seats>⟧.seats bench.old.left)) left.now.sheet.now) left.now.noise (entry_automaton (lasting_of (⟦<Side as Seats>⟧.seats bench.old.left)) right.now.sheet.now) right.now.noise turns (record { left = turns_of (⟦<Side as Seats>⟧.seats bench.old.left); right = turns_of (⟦<Side as Seats>⟧.seats bench.old.right) }) (record { left = turns_of (⟦<Side as Seats>⟧.seats bench.new.left); right = turns_of (⟦<Side as Seats>⟧.seats bench.new.right) })) }
-    ensures none_fell { IfOk result (λ _. NoTurnsFell (record { left = turns_of (⟦<Side as Seats>⟧.seats bench.old.left); right = turns_of (⟦<Side as Seats>⟧.seats bench.old.right) }) (record { left = turns_of (⟦<Side as Seats>⟧.seats bench.new.left); right = turns_of (⟦<Side as Seats>⟧.seats bench.new.right) })) }
-    ensures fits { Fits (lasting_of (⟦<Side as Seats>⟧.seats bench.new.left)) (lasting_of (⟦<Side as Seats>⟧.seats bench.new.right)) }
-    ensures left_kept { KeepsPlugs (lasting_of (⟦<Side as Seats>⟧.seats bench.old.left)) (lasting_of (⟦<Side as Seats>⟧.seats bench.new.left)) }
-    ensures right_kept { KeepsPlugs (lasting_of (⟦<Side as Seats>⟧.seats bench.old.right)) (lasting_of (⟦<Side as Seats>⟧.seats bench.new.right)) }
+    ensures sides { IfOk result (λ _. AreSidesOn (⟦<Bench as Seen>⟧.view bench.old) left.now right.now) }
+    ensures asked { IfOk result (λ _. IsAskedOn (⟦<Bench as Seen>⟧.view bench.old) (⟦<Bench as Seen>⟧.view bench.new) left.now right.now turns) }
+    ensures none_fell { IfOk result (λ _. NoneFellOn (⟦<Bench as Seen>⟧.view bench.old) (⟦<Bench as Seen>⟧.view bench.new)) }
+    ensures kept { KeepsBench (⟦<Bench as Seen>⟧.view bench.old) (⟦<Bench as Seen>⟧.view bench.new) }
 {
     let tally = play_sheets_long(trail, bench, left.sheet, right.sheet, turns)?;
     // The chances of flips are in range by their type.
@@ -89,23 +83,21 @@ fn mixed_line(
     game: &Game,
     turns: u64,
 ) -> Result<MatchLine, NoMemory>
-    requires fits { Fits (lasting_of (⟦<Side as Seats>⟧.seats bench.old.left)) (lasting_of (⟦<Side as Seats>⟧.seats bench.old.right)) }
-    requires left_known { IsKnown (lasting_of (⟦<Side as Seats>⟧.seats bench.old.left)) left.now.sheet.now }
-    requires right_known { IsKnown (lasting_of (⟦<Side as Seats>⟧.seats bench.old.left)) right.now.sheet.now }
+    requires fits { Fits (⟦<Bench as Seen>⟧.view bench.old) }
+    requires left_known { IsKnownOn (⟦<Bench as Seen>⟧.view bench.old) left.now.sheet.now }
+    requires right_known { IsKnownOn (⟦<Bench as Seen>⟧.view bench.old) right.now.sheet.now }
     requires some_turns { 1 ≤ turns }
     requires few_turns { turns ≤ 10000 }
-    requires unsure { IsSureMatch (entry_automaton (lasting_of (⟦<Side as Seats>⟧.seats bench.old.left)) left.now.sheet.now) left.now.noise (entry_automaton (lasting_of (⟦<Side as Seats>⟧.seats bench.old.left)) right.now.sheet.now) right.now.noise → ⊥ }
-    ensures line { IfOk result (IsLineOf (entry_automaton (lasting_of (⟦<Side as Seats>⟧.seats bench.old.left)) left.now.sheet.now) left.now.noise (entry_automaton (lasting_of (⟦<Side as Seats>⟧.seats bench.old.left)) right.now.sheet.now) right.now.noise game.now turns) }
+    requires unsure { IsSureOn (⟦<Bench as Seen>⟧.view bench.old) left.now right.now → ⊥ }
+    ensures line { IfOk result (IsLineOn (⟦<Bench as Seen>⟧.view bench.old) left.now right.now game.now turns) }
     ensures left_place { IfOk result (λ line. line.left ≡ left.now.place) }
     ensures right_place { IfOk result (λ line. line.right ≡ right.now.place) }
     ensures turns { IfOk result (λ line. line.turns ≡ turns) }
     ensures range { IfOk result (IsInRange turns) }
-    ensures sides { IfOk result (λ _. AreSides (entry_automaton (lasting_of (⟦<Side as Seats>⟧.seats bench.old.left)) left.now.sheet.now) left.now.noise (entry_automaton (lasting_of (⟦<Side as Seats>⟧.seats bench.old.left)) right.now.sheet.now) right.now.noise) }
-    ensures asked { IfOk result (λ _. IsAsked (entry_automaton (lasting_of (⟦<Side as Seats>⟧.seats bench.old.left)) left.now.sheet.now) left.now.noise (entry_automaton (lasting_of (⟦<Side as Seats>⟧.seats bench.old.left)) right.now.sheet.now) right.now.noise turns (record { left = turns_of (⟦<Side as Seats>⟧.seats bench.old.left); right = turns_of (⟦<Side as Seats>⟧.seats bench.old.right) }) (record { left = turns_of (⟦<Side as Seats>⟧.seats bench.new.left); right = turns_of (⟦<Side as Seats>⟧.seats bench.new.right) })) }
-    ensures none_fell { IfOk result (λ _. NoTurnsFell (record { left = turns_of (⟦<Side as Seats>⟧.seats bench.old.left); right = turns_of (⟦<Side as Seats>⟧.seats bench.old.right) }) (record { left = turns_of (⟦<Side as Seats>⟧.seats bench.new.left); right = turns_of (⟦<Side as Seats>⟧.seats bench.new.right) })) }
-    ensures fits { Fits (lasting_of (⟦<Side as Seats>⟧.seats bench.new.left)) (lasting_of (⟦<Side as Seats>⟧.seats bench.new.right)) }
-    ensures left_kept { KeepsPlugs (lasting_of (⟦<Side as Seats>⟧.seats bench.old.left)) (lasting_of (⟦<Side as Seats>⟧.seats bench.new.left)) }
-    ensures right_kept { KeepsPlugs (lasting_of (⟦<Side as Seats>⟧.seats bench.old.right)) (lasting_of (⟦<Side as Seats>⟧.seats bench.new.right)) }
+    ensures sides { IfOk result (λ _. AreSidesOn (⟦<Bench as Seen>⟧.view bench.old) left.now right.now) }
+    ensures asked { IfOk result (λ _. IsAskedOn (⟦<Bench as Seen>⟧.view bench.old) (⟦<Bench as Seen>⟧.view bench.new) left.now right.now turns) }
+    ensures none_fell { IfOk result (λ _. NoneFellOn (⟦<Bench as Seen>⟧.view bench.old) (⟦<Bench as Seen>⟧.view bench.new)) }
+    ensures kept { KeepsBench (⟦<Bench as Seen>⟧.view bench.old) (⟦<Bench as Seen>⟧.view bench.new) }
 {
     let (left_grid, right_grid) = tabulate_sheets(alloc, bench, left.sheet, right.sheet)?;
     // Grids and chances of flips are valid by their types.
@@ -152,24 +144,22 @@ pub fn match_line(
     turns: u64,
     sure: bool,
 ) -> Result<MatchLine, NoMemory>
-    requires fits { Fits (lasting_of (⟦<Side as Seats>⟧.seats bench.old.left)) (lasting_of (⟦<Side as Seats>⟧.seats bench.old.right)) }
-    requires left_known { IsKnown (lasting_of (⟦<Side as Seats>⟧.seats bench.old.left)) left.now.sheet.now }
-    requires right_known { IsKnown (lasting_of (⟦<Side as Seats>⟧.seats bench.old.left)) right.now.sheet.now }
+    requires fits { Fits (⟦<Bench as Seen>⟧.view bench.old) }
+    requires left_known { IsKnownOn (⟦<Bench as Seen>⟧.view bench.old) left.now.sheet.now }
+    requires right_known { IsKnownOn (⟦<Bench as Seen>⟧.view bench.old) right.now.sheet.now }
     requires some_turns { 1 ≤ turns }
     requires few_turns { turns ≤ 10 ^ 12 }
     requires few_mixed_turns { sure ≡ false → turns ≤ 10000 }
-    requires sure { IsTrue sure ↔ IsSureMatch (entry_automaton (lasting_of (⟦<Side as Seats>⟧.seats bench.old.left)) left.now.sheet.now) left.now.noise (entry_automaton (lasting_of (⟦<Side as Seats>⟧.seats bench.old.left)) right.now.sheet.now) right.now.noise }
-    ensures line { IfOk result (IsLineOf (entry_automaton (lasting_of (⟦<Side as Seats>⟧.seats bench.old.left)) left.now.sheet.now) left.now.noise (entry_automaton (lasting_of (⟦<Side as Seats>⟧.seats bench.old.left)) right.now.sheet.now) right.now.noise game.now turns) }
+    requires sure { IsTrue sure ↔ IsSureOn (⟦<Bench as Seen>⟧.view bench.old) left.now right.now }
+    ensures line { IfOk result (IsLineOn (⟦<Bench as Seen>⟧.view bench.old) left.now right.now game.now turns) }
     ensures left_place { IfOk result (λ line. line.left ≡ left.now.place) }
     ensures right_place { IfOk result (λ line. line.right ≡ right.now.place) }
     ensures turns { IfOk result (λ line. line.turns ≡ turns) }
     ensures range { IfOk result (IsInRange turns) }
-    ensures sides { IfOk result (λ _. AreSides (entry_automaton (lasting_of (⟦<Side as Seats>⟧.seats bench.old.left)) left.now.sheet.now) left.now.noise (entry_automaton (lasting_of (⟦<Side as Seats>⟧.seats bench.old.left)) right.now.sheet.now) right.now.noise) }
-    ensures asked { IfOk result (λ _. IsAsked (entry_automaton (lasting_of (⟦<Side as Seats>⟧.seats bench.old.left)) left.now.sheet.now) left.now.noise (entry_automaton (lasting_of (⟦<Side as Seats>⟧.seats bench.old.left)) right.now.sheet.now) right.now.noise turns (record { left = turns_of (⟦<Side as Seats>⟧.seats bench.old.left); right = turns_of (⟦<Side as Seats>⟧.seats bench.old.right) }) (record { left = turns_of (⟦<Side as Seats>⟧.seats bench.new.left); right = turns_of (⟦<Side as Seats>⟧.seats bench.new.right) })) }
-    ensures none_fell { IfOk result (λ _. NoTurnsFell (record { left = turns_of (⟦<Side as Seats>⟧.seats bench.old.left); right = turns_of (⟦<Side as Seats>⟧.seats bench.old.right) }) (record { left = turns_of (⟦<Side as Seats>⟧.seats bench.new.left); right = turns_of (⟦<Side as Seats>⟧.seats bench.new.right) })) }
-    ensures fits { Fits (lasting_of (⟦<Side as Seats>⟧.seats bench.new.left)) (lasting_of (⟦<Side as Seats>⟧.seats bench.new.right)) }
-    ensures left_kept { KeepsPlugs (lasting_of (⟦<Side as Seats>⟧.seats bench.old.left)) (lasting_of (⟦<Side as Seats>⟧.seats bench.new.left)) }
-    ensures right_kept { KeepsPlugs (lasting_of (⟦<Side as Seats>⟧.seats bench.old.right)) (lasting_of (⟦<Side as Seats>⟧.seats bench.new.right)) }
+    ensures sides { IfOk result (λ _. AreSidesOn (⟦<Bench as Seen>⟧.view bench.old) left.now right.now) }
+    ensures asked { IfOk result (λ _. IsAskedOn (⟦<Bench as Seen>⟧.view bench.old) (⟦<Bench as Seen>⟧.view bench.new) left.now right.now turns) }
+    ensures none_fell { IfOk result (λ _. NoneFellOn (⟦<Bench as Seen>⟧.view bench.old) (⟦<Bench as Seen>⟧.view bench.new)) }
+    ensures kept { KeepsBench (⟦<Bench as Seen>⟧.view bench.old) (⟦<Bench as Seen>⟧.view bench.new) }
 {
     if sure {
         played_line(trail, bench, left, right, game, turns)

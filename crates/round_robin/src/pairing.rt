@@ -1,20 +1,19 @@
 //! The matches of a tournament, pair by pair.
 ghost use Rattle.std.specs.Prelude.{ℕ, ◌≡◌, ◌≤◌, ◌<◌, ◌↔◌, All, List, IfOk, IsTrue, length};
-ghost use Rattle.player_core.specs.State.{Lasting, lasting_of};
+ghost use Rattle.player_core.specs.State.{Lasting, players_of};
 ghost use Rattle.player_core.specs.Fits.{Fits};
 ghost use Rattle.player_core.specs.Entry.{entry_automaton};
-ghost use Rattle.player_core.specs.Bench.{KeepsPlugs};
-ghost use Rattle.player_core.specs.Counts.{turns_of};
+ghost use Rattle.player_core.specs.Bench.{KeepsBench};
 ghost use Rattle.match_play.specs.Known.{IsKnown};
-ghost use Rattle.round_robin.specs.Asked.{AreAsked, NoTurnsFell, PairAsked};
-ghost use Rattle.round_robin.specs.Contest.{AreContestants, AreFewTurns, ArePairs, IsContestant, IsPair, IsSurePair, IsSureStrategy, strategies_of, strategy_at};
+ghost use Rattle.round_robin.specs.Contest.{AreFewTurns, IsContestant, IsPair, IsSurePair, IsSureStrategy, strategies_of, strategy_at};
+ghost use Rattle.round_robin.specs.OnBench.{AreAskedOn, NoneFellOn, PairAskedOn, strategies_on};
 ghost use Rattle.round_robin.specs.Totals.{AreLines, HasScores, IsLineBetween};
 
 use crate::{Contestant, Entrant, match_line};
 use history_model::{Game, NoMemory};
 use match_play::{MatchLine, Trail};
 use player_core::laws::{entries_play, keeping_lasts};
-use player_core::{Bench, Player, Seats, Side};
+use player_core::{Bench, Player, Seen};
 use std::alloc::Global;
 
 // The contestant at a place, as a side of a match.
@@ -57,20 +56,18 @@ fn pair_line(
     game: &Game,
     turns: u64,
 ) -> Result<MatchLine, NoMemory>
-    requires fits { Fits (lasting_of (⟦<Side as Seats>⟧.seats bench.old.left)) (lasting_of (⟦<Side as Seats>⟧.seats bench.old.right)) }
-    requires contestants { All (IsContestant (lasting_of (⟦<Side as Seats>⟧.seats bench.old.left))) contestants.now }
+    requires fits { Fits (⟦<Bench as Seen>⟧.view bench.old) }
+    requires contestants { All (IsContestant (players_of (⟦<Bench as Seen>⟧.view bench.old))) contestants.now }
     requires pair { IsPair (length contestants.now) pair }
     requires some_turns { 1 ≤ turns }
-    requires few_turns { AreFewTurns (strategies_of (lasting_of (⟦<Side as Seats>⟧.seats bench.old.left)) contestants.now) turns pair }
-    ensures line { IfOk result (IsLineBetween (strategies_of (lasting_of (⟦<Side as Seats>⟧.seats bench.old.left)) contestants.now) game.now turns) }
+    requires few_turns { AreFewTurns (strategies_on (⟦<Bench as Seen>⟧.view bench.old) contestants.now) turns pair }
+    ensures line { IfOk result (IsLineBetween (strategies_on (⟦<Bench as Seen>⟧.view bench.old) contestants.now) game.now turns) }
     ensures left_place { IfOk result (λ line. line.left ≡ pair.0) }
     ensures right_place { IfOk result (λ line. line.right ≡ pair.1) }
     ensures scores { IfOk result HasScores }
-    ensures asked { IfOk result (λ _. PairAsked (strategies_of (lasting_of (⟦<Side as Seats>⟧.seats bench.old.left)) contestants.now) turns pair (record { left = turns_of (⟦<Side as Seats>⟧.seats bench.old.left); right = turns_of (⟦<Side as Seats>⟧.seats bench.old.right) }) (record { left = turns_of (⟦<Side as Seats>⟧.seats bench.new.left); right = turns_of (⟦<Side as Seats>⟧.seats bench.new.right) })) }
-    ensures none_fell { IfOk result (λ _. NoTurnsFell (record { left = turns_of (⟦<Side as Seats>⟧.seats bench.old.left); right = turns_of (⟦<Side as Seats>⟧.seats bench.old.right) }) (record { left = turns_of (⟦<Side as Seats>⟧.seats bench.new.left); right = turns_of (⟦<Side as Seats>⟧.seats bench.new.right) })) }
-    ensures fits { Fits (lasting_of (⟦<Side as Seats>⟧.seats bench.new.left)) (lasting_of (⟦<Side as Seats>⟧.seats bench.new.right)) }
-    ensures left_kept { KeepsPlugs (lasting_of (⟦<Side as Seats>⟧.seats bench.old.left)) (lasting_of (⟦<Side as Seats>⟧.seats bench.new.left)) }
-    ensures right_kept { KeepsPlugs (lasting_of (⟦<Side as Seats>⟧.seats bench.old.right)) (lasting_of (⟦<Side as Seats>⟧.seats bench.new.right)) }
+    ensures asked { IfOk result (λ _. PairAskedOn (⟦<Bench as Seen>⟧.view bench.old) (⟦<Bench as Seen>⟧.view bench.new) contestants.now turns pair) }
+    ensures none_fell { IfOk result (λ _. NoneFellOn (⟦<Bench as Seen>⟧.view bench.old) (⟦<Bench as Seen>⟧.view bench.new)) }
+    ensures kept { KeepsBench (⟦<Bench as Seen>⟧.view bench.old) (⟦<Bench as Seen>⟧.view bench.new) }
 {
     let left = entrant(contestants, pair.0);
     let right = entrant(contestants, pair.1);
@@ -89,17 +86,15 @@ pub(crate) fn pair_lines(
     game: &Game,
     turns: u64,
 ) -> Result<Vec<MatchLine>, NoMemory>
-    requires fits { Fits (lasting_of (⟦<Side as Seats>⟧.seats bench.old.left)) (lasting_of (⟦<Side as Seats>⟧.seats bench.old.right)) }
-    requires contestants { All (IsContestant (lasting_of (⟦<Side as Seats>⟧.seats bench.old.left))) contestants.now }
+    requires fits { Fits (⟦<Bench as Seen>⟧.view bench.old) }
+    requires contestants { All (IsContestant (players_of (⟦<Bench as Seen>⟧.view bench.old))) contestants.now }
     requires pairs { All (IsPair (length contestants.now)) pairs.now }
     requires some_turns { 1 ≤ turns }
-    requires few_turns { All (AreFewTurns (strategies_of (lasting_of (⟦<Side as Seats>⟧.seats bench.old.left)) contestants.now) turns) pairs.now }
-    ensures lines { IfOk result (λ lines. AreLines (strategies_of (lasting_of (⟦<Side as Seats>⟧.seats bench.old.left)) contestants.now) game.now turns pairs.now lines.items) }
+    requires few_turns { All (AreFewTurns (strategies_on (⟦<Bench as Seen>⟧.view bench.old) contestants.now) turns) pairs.now }
+    ensures lines { IfOk result (λ lines. AreLines (strategies_on (⟦<Bench as Seen>⟧.view bench.old) contestants.now) game.now turns pairs.now lines.items) }
     ensures scores { IfOk result (λ lines. All HasScores lines.items) }
-    ensures asked { IfOk result (λ _. AreAsked (strategies_of (lasting_of (⟦<Side as Seats>⟧.seats bench.old.left)) contestants.now) turns pairs.now (record { left = turns_of (⟦<Side as Seats>⟧.seats bench.old.left); right = turns_of (⟦<Side as Seats>⟧.seats bench.old.right) }) (record { left = turns_of (⟦<Side as Seats>⟧.seats bench.new.left); right = turns_of (⟦<Side as Seats>⟧.seats bench.new.right) })) }
-    ensures fits { Fits (lasting_of (⟦<Side as Seats>⟧.seats bench.new.left)) (lasting_of (⟦<Side as Seats>⟧.seats bench.new.right)) }
-    ensures left_kept { KeepsPlugs (lasting_of (⟦<Side as Seats>⟧.seats bench.old.left)) (lasting_of (⟦<Side as Seats>⟧.seats bench.new.left)) }
-    ensures right_kept { KeepsPlugs (lasting_of (⟦<Side as Seats>⟧.seats bench.old.right)) (lasting_of (⟦<Side as Seats>⟧.seats bench.new.right)) }
+    ensures asked { IfOk result (λ _. AreAskedOn (⟦<Bench as Seen>⟧.view bench.old) (⟦<Bench as Seen>⟧.view bench.new) contestants.now turns pairs.now) }
+    ensures kept { KeepsBench (⟦<Bench as Seen>⟧.view bench.old) (⟦<Bench as Seen>⟧.view bench.new) }
 {
     entries_play();
     keeping_lasts();

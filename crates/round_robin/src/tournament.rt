@@ -1,11 +1,10 @@
 //! Tournaments on a bench.
 ghost use Rattle.std.specs.Prelude.{ℕ, ◌≡◌, ◌≤◌, All, IfOk, length};
-ghost use Rattle.player_core.specs.State.{lasting_of};
+ghost use Rattle.player_core.specs.State.{players_of};
 ghost use Rattle.player_core.specs.Fits.{Fits};
-ghost use Rattle.player_core.specs.Bench.{KeepsPlugs};
-ghost use Rattle.player_core.specs.Counts.{turns_of};
-ghost use Rattle.round_robin.specs.Asked.{AreAsked};
-ghost use Rattle.round_robin.specs.Contest.{AreContestants, AreFewTurns, ArePairs, strategies_of};
+ghost use Rattle.player_core.specs.Bench.{KeepsBench};
+ghost use Rattle.round_robin.specs.Contest.{AreContestants, AreFewTurns, ArePairs};
+ghost use Rattle.round_robin.specs.OnBench.{AreAskedOn, strategies_on};
 ghost use Rattle.round_robin.specs.Totals.{AreLines, entries_of};
 
 use crate::pairing::pair_lines;
@@ -13,7 +12,7 @@ use crate::scoring::entries_of;
 use crate::{Contestant, EntryLines, MatchLines, Totals};
 use history_model::{Game, NoMemory};
 use match_play::Trail;
-use player_core::{Bench, Player, Seats, Side};
+use player_core::{Bench, Player, Seen};
 use std::alloc::Global;
 
 /// The matches of the pairs of a tournament of 1 to 64 contestants, in the order of the pairs, and what
@@ -34,17 +33,15 @@ pub fn totals(
     game: &Game,
     turns: u64,
 ) -> Result<Totals, NoMemory>
-    requires fits { Fits (lasting_of (⟦<Side as Seats>⟧.seats bench.old.left)) (lasting_of (⟦<Side as Seats>⟧.seats bench.old.right)) }
-    requires contestants { AreContestants (lasting_of (⟦<Side as Seats>⟧.seats bench.old.left)) contestants.now }
+    requires fits { Fits (⟦<Bench as Seen>⟧.view bench.old) }
+    requires contestants { AreContestants (players_of (⟦<Bench as Seen>⟧.view bench.old)) contestants.now }
     requires pairs { ArePairs (length contestants.now) pairs.now }
     requires some_turns { 1 ≤ turns }
-    requires few_turns { All (AreFewTurns (strategies_of (lasting_of (⟦<Side as Seats>⟧.seats bench.old.left)) contestants.now) turns) pairs.now }
-    ensures lines { IfOk result (λ totals. AreLines (strategies_of (lasting_of (⟦<Side as Seats>⟧.seats bench.old.left)) contestants.now) game.now turns pairs.now totals.matches) }
+    requires few_turns { All (AreFewTurns (strategies_on (⟦<Bench as Seen>⟧.view bench.old) contestants.now) turns) pairs.now }
+    ensures lines { IfOk result (λ totals. AreLines (strategies_on (⟦<Bench as Seen>⟧.view bench.old) contestants.now) game.now turns pairs.now totals.matches) }
     ensures entries { IfOk result (λ totals. totals.entries ≡ entries_of (length contestants.now) totals.matches) }
-    ensures asked { IfOk result (λ _. AreAsked (strategies_of (lasting_of (⟦<Side as Seats>⟧.seats bench.old.left)) contestants.now) turns pairs.now (record { left = turns_of (⟦<Side as Seats>⟧.seats bench.old.left); right = turns_of (⟦<Side as Seats>⟧.seats bench.old.right) }) (record { left = turns_of (⟦<Side as Seats>⟧.seats bench.new.left); right = turns_of (⟦<Side as Seats>⟧.seats bench.new.right) })) }
-    ensures fits { Fits (lasting_of (⟦<Side as Seats>⟧.seats bench.new.left)) (lasting_of (⟦<Side as Seats>⟧.seats bench.new.right)) }
-    ensures left_kept { KeepsPlugs (lasting_of (⟦<Side as Seats>⟧.seats bench.old.left)) (lasting_of (⟦<Side as Seats>⟧.seats bench.new.left)) }
-    ensures right_kept { KeepsPlugs (lasting_of (⟦<Side as Seats>⟧.seats bench.old.right)) (lasting_of (⟦<Side as Seats>⟧.seats bench.new.right)) }
+    ensures asked { IfOk result (λ _. AreAskedOn (⟦<Bench as Seen>⟧.view bench.old) (⟦<Bench as Seen>⟧.view bench.new) contestants.now turns pairs.now) }
+    ensures kept { KeepsBench (⟦<Bench as Seen>⟧.view bench.old) (⟦<Bench as Seen>⟧.view bench.new) }
 {
     let mut trail = Trail::new(alloc, 0)?;
     let lines = pair_lines(alloc, &mut trail, bench, contestants, pairs, game, turns)?;

@@ -41,70 +41,70 @@ returns-clause-tally g c =
     ∙ c.entries_play.ensures.right _ _ _ _ c.requires.fits c.place_of-j.ensures)
     c.play_at.ensures.tally
 
-pub returns-clause-left_kept : goal.returns-clause-left_kept
-returns-clause-left_kept g c = side_kept c.keeping_lasts.ensures c.one_change.ensures _ _ _ _ _ c.args.left.now _ (record {
-  inside = inside_states _ _ c.place_of-i.ensures.left_inside;
-  load = c.load.ensures.left;
-  kept = c.load.ensures.left_kept;
-  played = c.play_at.ensures.left;
-  lasting = refl;
-  counted = counted_on _ _ _ (as_long c.counts_are_paid.ensures _ _ _ c.play_at.ensures.tally c.play_at.ensures.total);
-  valid = c.play_at.ensures.left_valid;
-})
+pub returns-clause-kept : goal.returns-clause-kept
+returns-clause-kept g c =
+    let left_kept =
+    side_kept c.keeping_lasts.ensures c.one_change.ensures _ _ _ _ _ c.args.left.now _ (record {
+      inside = inside_states _ _ c.place_of-i.ensures.left_inside;
+      load = c.load.ensures.left;
+      kept = c.load.ensures.kept.left_kept;
+      played = c.play_at.ensures.left;
+      lasting = refl;
+      counted = counted_on _ _ _ (as_long c.counts_are_paid.ensures _ _ _ c.play_at.ensures.tally c.play_at.ensures.total);
+      valid = c.play_at.ensures.left_valid;
+    }) in
+    let right_kept =
+    side_kept c.keeping_lasts.ensures c.one_change.ensures _ _ _ _ _ c.args.right.now _ (record {
+      inside = inside_states _ _ c.place_of-j.ensures.right_inside;
+      load = c.load.ensures.right;
+      kept = c.load.ensures.kept.right_kept;
+      played = c.play_at.ensures.right;
+      lasting = refl;
+      counted = counted_on _ _ _ (length-map _ _ ∙ as_long c.counts_are_paid.ensures _ _ _ c.play_at.ensures.tally c.play_at.ensures.total);
+      valid = c.play_at.ensures.right_valid;
+    }) in
+    record {
+      fits = c.keeping_lasts.ensures.fits _ _ _ _ left_kept right_kept c.requires.fits;
+      left_kept = left_kept;
+      right_kept = right_kept;
+    }
 
-pub returns-clause-left_advanced : goal.returns-clause-left_advanced
-returns-clause-left_advanced g c = side_advanced c.one_change.ensures c.counts_add_up.ensures _ _ _ _ _ c.args.left.now _ (record {
-  inside = inside_states _ _ c.place_of-i.ensures.left_inside;
-  load = c.load.ensures.left;
-  kept = c.load.ensures.left_kept;
-  played = c.play_at.ensures.left;
-  lasting = refl;
-  counted = counted_on _ _ _ (as_long c.counts_are_paid.ensures _ _ _ c.play_at.ensures.tally c.play_at.ensures.total);
-  valid = c.play_at.ensures.left_valid;
-})
+pub returns-clause-advanced : goal.returns-clause-advanced
+returns-clause-advanced g c = record {
+  left = side_advanced c.one_change.ensures c.counts_add_up.ensures _ _ _ _ _ c.args.left.now _ (record {
+    inside = inside_states _ _ c.place_of-i.ensures.left_inside;
+    load = c.load.ensures.left;
+    kept = c.load.ensures.kept.left_kept;
+    played = c.play_at.ensures.left;
+    lasting = refl;
+    counted = counted_on _ _ _ (as_long c.counts_are_paid.ensures _ _ _ c.play_at.ensures.tally c.play_at.ensures.total);
+    valid = c.play_at.ensures.left_valid;
+  });
+  right = side_advanced c.one_change.ensures c.counts_add_up.ensures _ _ _ _ _ c.args.right.now _ (record {
+    inside = inside_states _ _ c.place_of-j.ensures.right_inside;
+    load = c.load.ensures.right;
+    kept = c.load.ensures.kept.right_kept;
+    played = c.play_at.ensures.right;
+    lasting = refl;
+    counted = counted_on _ _ _ (length-map _ _ ∙ as_long c.counts_are_paid.ensures _ _ _ c.play_at.ensures.tally c.play_at.ensures.total);
+    valid = c.play_at.ensures.right_valid;
+  });
+}
 
-pub returns-clause-right_kept : goal.returns-clause-right_kept
-returns-clause-right_kept g c = side_kept c.keeping_lasts.ensures c.one_change.ensures _ _ _ _ _ c.args.right.now _ (record {
-  inside = inside_states _ _ c.place_of-j.ensures.right_inside;
-  load = c.load.ensures.right;
-  kept = c.load.ensures.right_kept;
-  played = c.play_at.ensures.right;
-  lasting = refl;
-  counted = counted_on _ _ _ (length-map _ _ ∙ as_long c.counts_are_paid.ensures _ _ _ c.play_at.ensures.tally c.play_at.ensures.total);
-  valid = c.play_at.ensures.right_valid;
-})
-
-pub returns-clause-right_advanced : goal.returns-clause-right_advanced
-returns-clause-right_advanced g c = side_advanced c.one_change.ensures c.counts_add_up.ensures _ _ _ _ _ c.args.right.now _ (record {
-  inside = inside_states _ _ c.place_of-j.ensures.right_inside;
-  load = c.load.ensures.right;
-  kept = c.load.ensures.right_kept;
-  played = c.play_at.ensures.right;
-  lasting = refl;
-  counted = counted_on _ _ _ (length-map _ _ ∙ as_long c.counts_are_paid.ensures _ _ _ c.play_at.ensures.tally c.play_at.ensures.total);
-  valid = c.play_at.ensures.right_valid;
-})
-
-pub returns-clause-fits : goal.returns-clause-fits
-returns-clause-fits g c =
-    c.keeping_lasts.ensures.fits _ _ _ _ (returns-clause-left_kept g c) (returns-clause-right_kept g c) c.requires.fits
-
-pub returns-clause-left_played : goal.returns-clause-left_played
-returns-clause-left_played g c =
-    has_played c.one_change.ensures _ _ _ c.place_of-i.result c.args.left.now _ _ (inside_states _ _ c.place_of-i.ensures.left_inside) c.load.ensures.left c.play_at.ensures.left
-    (same_path _ _ _ _ _
-    (loaded_plays c.one_change.ensures _ _ _ c.args.left.now (inside_states _ _ c.place_of-i.ensures.left_inside) c.load.ensures.left
-    ∙ c.entries_play.ensures.left _ _ _ _ c.requires.fits c.place_of-i.ensures)
-    (loaded_plays c.one_change.ensures _ _ _ c.args.right.now (inside_states _ _ c.place_of-j.ensures.right_inside) c.load.ensures.right
-    ∙ c.entries_play.ensures.right _ _ _ _ c.requires.fits c.place_of-j.ensures))
-    c.place_of-i.ensures.left_takes
-
-pub returns-clause-right_played : goal.returns-clause-right_played
-returns-clause-right_played g c =
-    has_played c.one_change.ensures _ _ _ c.place_of-j.result c.args.right.now _ _ (inside_states _ _ c.place_of-j.ensures.right_inside) c.load.ensures.right c.play_at.ensures.right
-    (ap turned (same_path _ _ _ _ _
-    (loaded_plays c.one_change.ensures _ _ _ c.args.left.now (inside_states _ _ c.place_of-i.ensures.left_inside) c.load.ensures.left
-    ∙ c.entries_play.ensures.left _ _ _ _ c.requires.fits c.place_of-i.ensures)
-    (loaded_plays c.one_change.ensures _ _ _ c.args.right.now (inside_states _ _ c.place_of-j.ensures.right_inside) c.load.ensures.right
-    ∙ c.entries_play.ensures.right _ _ _ _ c.requires.fits c.place_of-j.ensures)))
-    c.place_of-j.ensures.right_takes
+pub returns-clause-played : goal.returns-clause-played
+returns-clause-played g c = record {
+  on_the_left = has_played c.one_change.ensures _ _ _ c.place_of-i.result c.args.left.now _ _ (inside_states _ _ c.place_of-i.ensures.left_inside) c.load.ensures.left c.play_at.ensures.left
+      (same_path _ _ _ _ _
+      (loaded_plays c.one_change.ensures _ _ _ c.args.left.now (inside_states _ _ c.place_of-i.ensures.left_inside) c.load.ensures.left
+      ∙ c.entries_play.ensures.left _ _ _ _ c.requires.fits c.place_of-i.ensures)
+      (loaded_plays c.one_change.ensures _ _ _ c.args.right.now (inside_states _ _ c.place_of-j.ensures.right_inside) c.load.ensures.right
+      ∙ c.entries_play.ensures.right _ _ _ _ c.requires.fits c.place_of-j.ensures))
+      c.place_of-i.ensures.left_takes;
+  on_the_right = has_played c.one_change.ensures _ _ _ c.place_of-j.result c.args.right.now _ _ (inside_states _ _ c.place_of-j.ensures.right_inside) c.load.ensures.right c.play_at.ensures.right
+      (ap turned (same_path _ _ _ _ _
+      (loaded_plays c.one_change.ensures _ _ _ c.args.left.now (inside_states _ _ c.place_of-i.ensures.left_inside) c.load.ensures.left
+      ∙ c.entries_play.ensures.left _ _ _ _ c.requires.fits c.place_of-i.ensures)
+      (loaded_plays c.one_change.ensures _ _ _ c.args.right.now (inside_states _ _ c.place_of-j.ensures.right_inside) c.load.ensures.right
+      ∙ c.entries_play.ensures.right _ _ _ _ c.requires.fits c.place_of-j.ensures)))
+      c.place_of-j.ensures.right_takes;
+}

@@ -11,8 +11,8 @@ pub loop-pair-preserved : goal.loop-pair-preserved
 loop-pair-preserved g c =
     played_more c.keeping_lasts.ensures c.entries_play.ensures _ _ _ _ _ _ _ _ _ _ _ _ _ _ c.requires.fits c.loop-pair-test.true
     c.in_ok-push.ensures.items c.loop-pair.invariant (record {
-      left_kept = c.pair_line.ensures.left_kept;
-      right_kept = c.pair_line.ensures.right_kept;
+      left_kept = c.pair_line.ensures.kept.left_kept;
+      right_kept = c.pair_line.ensures.kept.right_kept;
       line_is = c.in_ok-line.ensures.line;
       left_place = c.in_ok-line.ensures.left_place;
       right_place = c.in_ok-line.ensures.right_place;
