@@ -23,7 +23,10 @@ use Rattle.axlab_core.specs.Input.{Input, OfLab, OfWords, Call, Comes, call_of, 
 use Rattle.axlab_core.specs.Loading.{Stop, Missing, Refuses, Denies, ◌>>=◌, IsTold}
 use Rattle.axlab_core.specs.Outcome.{Ends, IsUnread, IsWork, Wrote}
 use Rattle.axlab_core.specs.Output.{Delivers, GrewByFront, IsSendable, output_text}
+use Rattle.lab_file.specs.Lab.{LabData}
 use Rattle.axlab_core.specs.Right.{IsServed, Serves, ServesWell}
+use Rattle.axlab_core.specs.RightMatch.{IsAskedMatch}
+use Rattle.axlab_core.specs.RightTournament.{IsAskedTournament}
 use Rattle.axlab_core.specs.Steps.{Explains, LoadsInput}
 use Rattle.axlab_core.specs.Words.{needs_lab}
 use Rattle.axlab_core.specs.World.{World}
@@ -38,7 +41,7 @@ reads_words call number is = record {
   work = rw is tt;
   tests = λ answer passed. record {
     given = record { lab = []; machines = []; second = [] };
-    is = rw is (rw is at passed);
+    is = rw is passed;
   };
 }
 
@@ -56,7 +59,7 @@ reads_lab_input call command notes input is noted loads = record {
   work = rw is tt;
   tests = λ answer passed. record {
     given = loads.given;
-    is = rw is (ap (λ r. r >>= λ i. tested (Lab command) (players call) i) (rw noted at loads.is) ∙ (rw is at passed));
+    is = rw is (ap (λ r. r >>= λ i. tested (Lab command) (players call) i) (rw noted at loads.is) ∙ passed);
   };
 }
 
@@ -122,12 +125,38 @@ pub record GoesOn (start later : World) : Type 0 where
   pub taken : later.taken ≡ start.taken
   pub write_faults : later.write_faults ≡ start.write_faults
 
+asked_match_earlier : (start later after : BenchState) (lab : LabData) → lasting_of later.left ≡ lasting_of start.left → turns_of later.left ≡ turns_of start.left
+    → turns_of later.right ≡ turns_of start.right → IsAskedMatch later after lab → IsAskedMatch start after lab
+asked_match_earlier start later after lab same left right asked = record {
+  job = asked.job;
+  job_is = asked.job_is;
+  asked = record {
+    left = asked.asked.left;
+    right = asked.asked.right;
+    left_is = asked.asked.left_is;
+    right_is = asked.asked.right_is;
+    asked = rw (same, left, right) at asked.asked.asked;
+  };
+}
+
+asked_tournament_earlier : (start later after : BenchState) (lab : LabData) → lasting_of later.left ≡ lasting_of start.left → turns_of later.left ≡ turns_of start.left
+    → turns_of later.right ≡ turns_of start.right → IsAskedTournament later after lab → IsAskedTournament start after lab
+asked_tournament_earlier start later after lab same left right asked = record {
+  job = asked.job;
+  job_is = asked.job_is;
+  entrants = asked.entrants;
+  entrants_are = asked.entrants_are;
+  asked = rw (same, left, right) at asked.asked;
+}
+
 served_earlier : (form : Form) (start later after : BenchState) (input : Input) (text : List ℕ) → lasting_of later.left ≡ lasting_of start.left
     → turns_of later.left ≡ turns_of start.left → turns_of later.right ≡ turns_of start.right
     → IsServed form later after input text → IsServed form start after input text
-served_earlier (Lab commands.Match) start later after (OfLab lab second) text same left right served = rw (same, left, right) at served
-served_earlier (Lab commands.Tournament) start later after (OfLab lab second) text same left right served = rw (same, left, right) at served
-served_earlier (Drill number) start later after OfWords text same left right served = rw (same, left, right) at served
+served_earlier (Lab commands.Match) start later after (OfLab lab second) text same left right served =
+    (rw same at served.0, asked_match_earlier start later after lab same left right served.1)
+served_earlier (Lab commands.Tournament) start later after (OfLab lab second) text same left right served =
+    (rw same at served.0, asked_tournament_earlier start later after lab same left right served.1)
+served_earlier (Drill number) start later after OfWords text same left right served = (rw same at served.0, rw (same, left, right) at served.1)
 served_earlier _ start later after _ text same left right served = absurd served
 
 comes_earlier : (words : List (List ℕ)) (start later : World) (answer : Result Input Stop) → GoesOn start later
