@@ -6,7 +6,7 @@ use Rattle.axlab_core.proofs.run.answer_lab.Goals as goal
 
 pub returns-in-Ok-clause-ends : goal.returns-in-Ok-clause-ends
 returns-in-Ok-clause-ends g c =
-    delivers_as _ _ _ (OfLab c.in-Ok.loaded.lab c.in-Ok.loaded.second) c.serve-served.result c.deliver.result (Lab c.args.command) c.requires.form
+    delivers_as _ _ (OfLab c.in-Ok.loaded.lab c.in-Ok.loaded.second) c.serve-served.result c.deliver.result (Lab c.args.command) c.requires.form
     (reads_lab_input _ c.args.command c.args.notes.now.items _ c.requires.form c.requires.notes (rw (c.lab_name.ensures, c.second_name.ensures) at c.in-Ok.ensures.loads))
     c.serve-served.ensures.served c.deliver.ensures
 

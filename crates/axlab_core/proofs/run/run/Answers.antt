@@ -9,5 +9,5 @@ returns-in-Unbuilt-clause-ends g c = (comes_unbuilt _ (sym c.in-Unbuilt.ensures)
 
 pub returns-in-Drill-clause-ends : goal.returns-in-Drill-clause-ends
 returns-in-Drill-clause-ends g c =
-    delivers_as _ _ _ OfWords c.serve_drill-served.result c.deliver.result (Drill c.in-Drill.number) (sym c.in-Drill.ensures)
+    delivers_as _ _ OfWords c.serve_drill-served.result c.deliver.result (Drill c.in-Drill.number) (sym c.in-Drill.ensures)
     (reads_words _ c.in-Drill.number (sym c.in-Drill.ensures)) c.serve_drill-served.ensures.served c.deliver.ensures
