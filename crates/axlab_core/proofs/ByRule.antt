@@ -1,6 +1,7 @@
 -- Entries choose as their automata do, so what their automata expect is what they expect.
 use Rattle.std.proofs.Common.{◌≡◌, ℕ, List, Option, Some, None, refl, ap}
 use Rattle.history_model.specs.Expectation.{player, ChooseAlike, WeightsDecide}
+use Rattle.history_model.specs.Path.{PathIsOne, match_path}
 use Rattle.history_model.specs.History.{History}
 use Rattle.history_model.specs.Game.{Payoffs}
 use Rattle.history_model.specs.declared.tally.Tally.{Tally}
@@ -14,10 +15,12 @@ use Rattle.player_core.specs.Entry.{entry_automaton, plug_automaton}
 use Rattle.player_core.specs.Rule.{own_rule, rule, FollowsRule}
 use Rattle.match_play.specs.declared.line.MatchLine.{MatchLine}
 use Rattle.product_chain.specs.Expected.{expected_score}
+use Rattle.round_robin.specs.Laws.{AreSides}
 use Rattle.round_robin.specs.Line.{IsLineOf, IsScored}
 use Rattle.lab_file.specs.Lab.{LabData}
 use Rattle.axlab_core.specs.Entrants.{Entrant, IsEntrant, rule_player, expects, expects_in}
 use Rattle.axlab_core.specs.RightLine.{IsRightScore, IsRightLine, IsRightBetween}
+use Rattle.axlab_core.proofs.Ruled.{path_by_rules}
 
 holds_same : (span : Ends) (x y : Fraction) → x ≡ y → Holds score_units span x → Holds score_units span y
 holds_same span x y same holds = rw (← same) holds
@@ -33,22 +36,30 @@ module _ (vectors : FollowsRule MemoryOne) (machines : FollowsRule Machine) (tab
   alike : (entrant : Entrant) → IsSheet entrant.sheet → ChooseAlike (player (entry_automaton players entrant.sheet)) (rule_player players entrant)
   alike entrant valid = record { den = refl; weight = λ history. by_kind entrant.sheet.kind entrant.sheet history valid refl }
 
-  pub expects_alike : (game : Payoffs) (turns : ℕ) (own other : Entrant) → IsSheet own.sheet → IsSheet other.sheet
-      → expected_score (player (entry_automaton players own.sheet)) own.noise (player (entry_automaton players other.sheet)) other.noise game 0 turns
-      ≡ expects_in players game turns own other
-  expects_alike game turns own other valid other_valid =
-      ap (λ z. record { numerator = z; denominator = (expects_in players game turns own other).denominator })
-      (decide _ _ own.noise _ _ other.noise game 0 turns (alike own valid) (alike other other_valid))
+  pub expects_alike : (game : Payoffs) (offset turns : ℕ) (own other : Entrant) → IsSheet own.sheet → IsSheet other.sheet
+      → expected_score (player (entry_automaton players own.sheet)) own.noise (player (entry_automaton players other.sheet)) other.noise game offset turns
+      ≡ expects_in players game offset turns own other
+  expects_alike game offset turns own other valid other_valid =
+      ap (λ z. record { numerator = z; denominator = (expects_in players game offset turns own other).denominator })
+      (decide _ _ own.noise _ _ other.noise game offset turns (alike own valid) (alike other other_valid))
 
-  module _ (lab : LabData) (left right : Entrant) (left_valid : IsSheet left.sheet) (right_valid : IsSheet right.sheet) where
+  module _ (one : PathIsOne) (lab : LabData) (left right : Entrant) (left_valid : IsSheet left.sheet) (right_valid : IsSheet right.sheet)
+      (sides : AreSides (entry_automaton players left.sheet) left.noise (entry_automaton players right.sheet) right.noise) where
     right_score : (line : MatchLine) (tally : Option Tally)
         → IsScored (entry_automaton players left.sheet) left.noise (entry_automaton players right.sheet) right.noise lab.game line.turns line tally
         → IsRightScore players lab left right line tally
-    right_score line (Some tally) played = record { sure = played.sure; plays = played.plays; left_score = played.left; right_score = played.right }
+    right_score line (Some tally) played = record {
+      sure = played.sure;
+      history = match_path (entry_automaton players left.sheet) (entry_automaton players right.sheet) line.turns;
+      by_rules = path_by_rules one _ _ _ _ line.turns sides.left sides.right played.sure.left played.sure.right (alike left left_valid) (alike right right_valid);
+      plays = played.plays;
+      left_score = played.left;
+      right_score = played.right;
+    }
     right_score line None mixed = record {
       unsure = mixed.unsure;
-      left_holds = holds_same line.left_score _ (expects players lab line.turns left right) (expects_alike lab.game line.turns left right left_valid right_valid) mixed.left.holds;
-      right_holds = holds_same line.right_score _ (expects players lab line.turns right left) (expects_alike lab.game line.turns right left right_valid left_valid) mixed.right.holds;
+      left_holds = holds_same line.left_score _ (expects players lab line.turns left right) (expects_alike lab.game 0 line.turns left right left_valid right_valid) mixed.left.holds;
+      right_holds = holds_same line.right_score _ (expects players lab line.turns right left) (expects_alike lab.game 0 line.turns right left right_valid left_valid) mixed.right.holds;
       left_width = mixed.left.width;
       right_width = mixed.right.width;
       left_tight = mixed.left.narrow;

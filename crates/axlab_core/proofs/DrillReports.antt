@@ -6,13 +6,13 @@ use Rattle.std.proofs.lemmas.List.{length-map}
 use Rattle.std.proofs.lemmas.List.Sums.{length-filter, count_by-le-length}
 use Rattle.std.proofs.lemmas.List.Elements.{All-head, All-tail, All-filter, All-map}
 use Rattle.std.proofs.lemmas.List.FromFn.{get_or-map-range_with_len, get_or-range_with_len, length-map-range_with_len, length-range_with_len}
-use Rattle.player_core.specs.State.{Lasting}
+use Rattle.player_core.specs.State.{BenchState, Lasting, players_of}
 use Rattle.player_core.specs.Fits.{SidesFit}
 use Rattle.player_core.specs.Sheet.{SheetData}
 use Rattle.fixed_span.specs.Span.{Fraction}
 use Rattle.match_play.specs.declared.line.MatchLine.{MatchLine}
 use Rattle.round_robin.specs.declared.tables.EntryLine.{EntryLine}
-use Rattle.round_robin.specs.Asked.{Turns, AreAsked}
+use Rattle.round_robin.specs.Asked.{AreAsked, bench_turns}
 use Rattle.round_robin.specs.Totals.{entry_of, entries_of}
 use Rattle.round_robin.specs.Truth.{nothing, true_rank}
 use Rattle.lab_report.specs.declared.report.Report.{Report}
@@ -107,12 +107,13 @@ right_drill_if players number sheets entries names first sum units (Ok report) d
     right_drill players number sheets entries names first sum report drawn are first_is told totals whole (is ∙ ap (drill_report_of number names first) same) valid shows
 right_drill_if players number sheets entries names first sum units (Err error) drawn are first_is told totals whole same is valid shows = tt
 
-pub asked_if : {E : Type 0} (players on_the_right : List Lasting) → SidesFit players on_the_right → (number : ℕ) (sheets : List SheetData) (before now : Turns) (made_of : Result Report E) → sheets ≡ drill_sheets number
-    → AreAsked (machine_strategies players sheets) drill_job.turns drill_pairs before now → IfOk made_of (λ _. IsAskedDrill players number before now)
-asked_if players on_the_right fits number sheets before now (Ok report) drawn asked =
-    let P : List SheetData → Type 0 = λ ss. AreAsked (machine_strategies players ss) drill_job.turns drill_pairs before now in
+pub asked_if : {E : Type 0} (before after : BenchState) (number : ℕ) (sheets : List SheetData) (made_of : Result Report E) → sheets ≡ drill_sheets number
+    → AreAsked (machine_strategies (players_of before) sheets) drill_job.turns drill_pairs (bench_turns before) (bench_turns after)
+    → IfOk made_of (λ _. IsAskedDrill before after number)
+asked_if before after number sheets (Ok report) drawn asked =
+    let P : List SheetData → Type 0 = λ ss. AreAsked (machine_strategies (players_of before) ss) drill_job.turns drill_pairs (bench_turns before) (bench_turns after) in
     subst P drawn asked
-asked_if players on_the_right fits number sheets before now (Err error) drawn asked = tt
+asked_if before after number sheets (Err error) drawn asked = tt
 
 -- ---- it can be made
 

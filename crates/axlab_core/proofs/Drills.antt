@@ -138,12 +138,12 @@ module _ (lines_hold : LinesHold) (players : List Lasting) (sheets : List SheetD
     expects_there i j left_inside right_inside =
         let s = (no_entrant).sheet in
         let F : Strategy → Strategy → Fraction = λ a b. expected_score (player a.automaton) a.noise (player b.automaton) b.noise drill_game 0 drill_job.turns in
-        let G : Entrant → Entrant → Fraction = λ a b. expects_in players drill_game drill_job.turns a b in
+        let G : Entrant → Entrant → Fraction = λ a b. expects_in players drill_game 0 drill_job.turns a b in
         let own = still (get_or sheets i s) in
         let other = still (get_or sheets j s) in
         ap (λ a. F a (strategy_at (machine_strategies players sheets) j)) (strategy_is i s left_inside)
         ∙ ap (F (strategy_of_entrant players own)) (strategy_is j s right_inside)
-        ∙ expects_alike vectors machines tables decide players on_the_right fits drill_game drill_job.turns own other
+        ∙ expects_alike vectors machines tables decide players on_the_right fits drill_game 0 drill_job.turns own other
         (are.valid i s (omega (arith, left_inside, are.many))) (are.valid j s (omega (arith, right_inside, are.many)))
         ∙ sym (ap (λ a. G a (entrant_at (map still sheets) j)) (entrant_is i s left_inside) ∙ ap (G own) (entrant_is j s right_inside))
 

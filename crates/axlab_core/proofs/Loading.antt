@@ -24,17 +24,27 @@ use Rattle.lab_file.specs.Limits.{limits_of}
 use Rattle.lab_file.specs.Notes.{IsNotedDraft, AreNoted, LabsAreNoted}
 use Rattle.axlab_core.specs.declared.load.LoadError.{LoadError}
 use Rattle.axlab_core.specs.declared.load.LoadError.TheVariants.{Unread, Refused, NoMemory}
-use Rattle.axlab_core.specs.Loading.{Stop, Missing, Refuses, ◌>>=◌, or_missing, or_stop, file_source, machine_source, lab_read, draft_read, entries_read, Loads, IsTold}
-use Rattle.axlab_core.specs.Steps.{of_file, ReadFails, Explains, IsReadyDraft, IsReadyEntry, ReadsLab, Attaches, AttachStops, AttachesAll, AttachAllStops}
+use Rattle.axlab_core.specs.Loading.{Stop, Missing, Refuses, ◌>>=◌, or_missing, or_stop, file_source, part_source, machine_source, lab_read, draft_read, entries_read, Loads, IsTold}
+use Rattle.axlab_core.specs.Steps.{of_file, ReadFails, Explains, IsReadyDraft, IsReadyEntry, ReadsLab, Attaches, AttachStops, AttachesAll, AttachAllStops, ReadsSecond, LoadsInput}
+use Rattle.lab_ports.specs.declared.refusal.FileRole.{FileRole}
+use Rattle.axlab_core.specs.declared.second.Second.{Second}
+use Rattle.axlab_core.specs.declared.second.Second.TheVariants.{Alone}
+use Rattle.axlab_core.specs.Input.{OfLab, longest, second_for, second_of, second_read, second_role}
 
 -- what a read gave is what the source has
+gave_part : (limit : ℕ) (holding : Option Holding) (name bytes : List ℕ) → IsFront holding name limit bytes → part_source limit holding bytes name ≡ Some bytes
+gave_part limit None name bytes front = refl
+gave_part limit (Some files) name bytes front = front
+
 gave : (holding : Option Holding) (name bytes : List ℕ) → IsFront holding name 1048576 bytes → file_source holding bytes name ≡ Some bytes
-gave None name bytes front = refl
-gave (Some files) name bytes front = front
+gave holding name bytes front = gave_part 1048576 holding name bytes front
+
+lacks_part : (limit : ℕ) (holding : Option Holding) (name given : List ℕ) → IsMissing holding name → part_source limit holding given name ≡ None
+lacks_part limit None name given missing = absurd missing
+lacks_part limit (Some files) name given missing = rw missing refl
 
 lacks : (holding : Option Holding) (name given : List ℕ) → IsMissing holding name → file_source holding given name ≡ None
-lacks None name given missing = absurd missing
-lacks (Some files) name given missing = rw missing refl
+lacks holding name given missing = lacks_part 1048576 holding name given missing
 
 told : (holding : Option Holding) (name : List ℕ) → IsMissing holding name → IsTold holding
 told None name missing = absurd missing
@@ -335,4 +345,56 @@ stops_reading command notes name holding stop reads = record {
   lab_given = reads.given;
   machines_given = [];
   is = ap (λ r. r >>= λ (l : LabData). entries_read (machine_source holding []) [] l.entries >>= λ es. or_stop (limits_of notes command (record l { entries = es })) >>= λ kept. Ok (record l { entries = es })) reads.is;
+}
+
+-- the second file
+pub reads_second : (command : Command) (role : FileRole) (name : List ℕ) (holding : Option Holding) (bytes : List ℕ) (limit : ℕ) (reading : Result Second Refusal)
+    → second_role command ≡ Some role → limit ≡ longest role → IsFront holding name limit bytes → reading ≡ second_of role bytes
+    → ReadsSecond command name holding (or_stop reading)
+reads_second command role name holding bytes limit reading has same front is = record {
+  given = bytes;
+  is = ap (λ r. second_read r (λ limit. part_source limit holding bytes name)) has
+      ∙ ap (λ found. or_missing found >>= λ b. or_stop (second_of role b)) (gave_part (longest role) holding name bytes (rw same at front))
+      ∙ ap or_stop (sym is);
+}
+
+pub lacks_second : (command : Command) (role : FileRole) (name : List ℕ) (holding : Option Holding) → second_role command ≡ Some role → IsMissing holding name
+    → ReadsSecond command name holding (Err Missing)
+lacks_second command role name holding has missing = record {
+  given = [];
+  is = ap (λ r. second_read r (λ limit. part_source limit holding [] name)) has
+      ∙ ap (λ found. or_missing found >>= λ b. or_stop (second_of role b)) (lacks_part (longest role) holding name [] missing);
+}
+
+pub reads_none : (command : Command) (name : List ℕ) (holding : Option Holding) → second_role command ≡ None → ReadsSecond command name holding (Ok Alone)
+reads_none command name holding none = record { given = []; is = ap (λ r. second_read r (λ limit. part_source limit holding [] name)) none }
+
+-- the files of a command
+pub loads_both : (command : Command) (notes : List PlugNote) (name second_name : List ℕ) (holding later : Option Holding) (lab : LabData) (second : Second)
+    → later ≡ holding → Loads command notes name holding (Ok lab) → ReadsSecond command second_name later (Ok second)
+    → LoadsInput command notes (record { lab = name; second = second_name }) holding (Ok (OfLab lab second))
+loads_both command notes name second_name holding later lab second same loads reads_later =
+    let reads : ReadsSecond command second_name holding (Ok second) = rw same at reads_later in
+    record {
+      given = record { lab = loads.lab_given; machines = loads.machines_given; second = reads.given };
+      is = ap (λ r. r >>= λ (l : LabData). second_for command (λ limit. part_source limit holding reads.given second_name) >>= λ s. Ok (OfLab l s)) loads.is
+          ∙ ap (λ r. r >>= λ s. Ok (OfLab lab s)) reads.is;
+    }
+
+pub stops_second : (command : Command) (notes : List PlugNote) (name second_name : List ℕ) (holding later : Option Holding) (lab : LabData) (stop : Stop)
+    → later ≡ holding → Loads command notes name holding (Ok lab) → ReadsSecond command second_name later (Err stop)
+    → LoadsInput command notes (record { lab = name; second = second_name }) holding (Err stop)
+stops_second command notes name second_name holding later lab stop same loads reads_later =
+    let reads : ReadsSecond command second_name holding (Err stop) = rw same at reads_later in
+    record {
+      given = record { lab = loads.lab_given; machines = loads.machines_given; second = reads.given };
+      is = ap (λ r. r >>= λ (l : LabData). second_for command (λ limit. part_source limit holding reads.given second_name) >>= λ s. Ok (OfLab l s)) loads.is
+          ∙ ap (λ r. r >>= λ s. Ok (OfLab lab s)) reads.is;
+    }
+
+pub stops_first : (command : Command) (notes : List PlugNote) (name second_name : List ℕ) (holding : Option Holding) (stop : Stop)
+    → Loads command notes name holding (Err stop) → LoadsInput command notes (record { lab = name; second = second_name }) holding (Err stop)
+stops_first command notes name second_name holding stop loads = record {
+  given = record { lab = loads.lab_given; machines = loads.machines_given; second = [] };
+  is = ap (λ r. r >>= λ (l : LabData). second_for command (λ limit. part_source limit holding [] second_name) >>= λ s. Ok (OfLab l s)) loads.is;
 }

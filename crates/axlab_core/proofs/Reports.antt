@@ -30,7 +30,14 @@ right_shown left right = elim (cases_Bool (bytes_eq left right)) [
 -- where its names stand changes nothing of what a line says
 pub placed : (players : List Lasting) (lab : LabData) (left right : Entrant) (line : MatchLine) (i j : ℕ) (tally : Option Tally)
     → IsRightScore players lab left right line tally → IsRightScore players lab left right (record line { left = i; right = j }) tally
-placed players lab left right line i j (Some tally) played = record { sure = played.sure; plays = played.plays; left_score = played.left_score; right_score = played.right_score }
+placed players lab left right line i j (Some tally) played = record {
+  sure = played.sure;
+  history = played.history;
+  by_rules = played.by_rules;
+  plays = played.plays;
+  left_score = played.left_score;
+  right_score = played.right_score;
+}
 placed players lab left right line i j None mixed = record {
   unsure = mixed.unsure;
   left_holds = mixed.left_holds;

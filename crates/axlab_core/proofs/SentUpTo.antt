@@ -5,7 +5,7 @@ use Rattle.std.proofs.Math.Seq.{take-add}
 use Rattle.std.proofs.lemmas.List.{length-take, length-drop, take-take, drop-drop, take-append-drop}
 use Rattle.lab_ports.specs.Causes.{Rose}
 use Rattle.lab_ports.specs.Holding.{Grew, GrewByPart, GrowthAddsUp}
-use Rattle.axlab_core.specs.Right.{GrewByFront}
+use Rattle.axlab_core.specs.Output.{GrewByFront}
 
 -- the sink took the first n of the bytes, and these are to come
 pub record IsSentUpTo (n : ℕ) (before now : Option (List ℕ)) (text to_come : List ℕ) : Type 0 where

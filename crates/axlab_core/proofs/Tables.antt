@@ -5,9 +5,10 @@ use Rattle.std.proofs.lemmas.List.{length-map, get_or-map}
 use Rattle.std.proofs.lemmas.List.Elements.{All-head, All-tail}
 use Rattle.std.proofs.lemmas.List.FromFn.{get_or-map-range_with_len, get_or-range_with_len, length-range_with_len}
 use Rattle.history_model.specs.Expectation.{WeightsDecide}
+use Rattle.history_model.specs.Path.{PathIsOne}
 use Rattle.player_core.specs.declared.bench.PlugNote.{PlugNote}
 use Rattle.player_core.specs.declared.kind.Kind.TheVariants.{MemoryOne, Machine, Lookup}
-use Rattle.player_core.specs.State.{Lasting}
+use Rattle.player_core.specs.State.{BenchState, Lasting, players_of}
 use Rattle.player_core.specs.Sheet.{IsSheet}
 use Rattle.player_core.specs.Fits.{SidesFit}
 use Rattle.player_core.specs.Rule.{FollowsRule}
@@ -18,7 +19,7 @@ use Rattle.round_robin.specs.declared.contestant.Contestant.{Contestant}
 use Rattle.round_robin.specs.declared.tables.EntryLine.{EntryLine}
 use Rattle.round_robin.specs.declared.tables.Totals.{Totals}
 use Rattle.round_robin.specs.declared.ranking.Rank.TheVariants.{At}
-use Rattle.round_robin.specs.Asked.{Turns, AreAsked}
+use Rattle.round_robin.specs.OnBench.{AreAskedOn}
 use Rattle.round_robin.specs.Contest.{IsPair, ArePairs, strategies_of}
 use Rattle.round_robin.specs.Ranks.{rank_of}
 use Rattle.round_robin.specs.Totals.{IsLineBetween, AreLines, pairs_of, entry_of, entries_of, total_of, totals_of}
@@ -85,7 +86,7 @@ first_same x y xs ys e = cc
 rest_same : {X : Type 0} (x y : X) (xs ys : List X) → x ∷ xs ≡ y ∷ ys → xs ≡ ys
 rest_same x y xs ys e = cc
 
-module _ (vectors : FollowsRule MemoryOne) (machines : FollowsRule Machine) (tables : FollowsRule Lookup) (decide : WeightsDecide) (players on_the_right : List Lasting) (fits : SidesFit players on_the_right) (notes : List PlugNote) (lab : LabData) (contestants : List Contestant) (first : AreFirst notes lab (length lab.entries) contestants) where
+module _ (vectors : FollowsRule MemoryOne) (machines : FollowsRule Machine) (tables : FollowsRule Lookup) (decide : WeightsDecide) (one : PathIsOne) (players on_the_right : List Lasting) (fits : SidesFit players on_the_right) (notes : List PlugNote) (lab : LabData) (contestants : List Contestant) (first : AreFirst notes lab (length lab.entries) contestants) where
   inside_contest : (place : ℕ) → place < length lab.entries → place < length contestants
   inside_contest place inside = omega (arith, inside, first.count_is)
 
@@ -99,7 +100,7 @@ module _ (vectors : FollowsRule MemoryOne) (machines : FollowsRule Machine) (tab
   expects_there turns i j left_inside right_inside =
       let l = strategy_there players contestants i (inside_contest i left_inside) in
       let r = strategy_there players contestants j (inside_contest j right_inside) in
-      rw (l, r) (expects_alike vectors machines tables decide players on_the_right fits lab.game turns (entrant_at (entrants_of contestants) i) (entrant_at (entrants_of contestants) j)
+      rw (l, r) (expects_alike vectors machines tables decide players on_the_right fits lab.game 0 turns (entrant_at (entrants_of contestants) i) (entrant_at (entrants_of contestants) j)
       (valid_there i left_inside) (valid_there j right_inside))
 
   -- a line between strategies is right for their entrants
@@ -109,8 +110,8 @@ module _ (vectors : FollowsRule MemoryOne) (machines : FollowsRule Machine) (tab
       let left_inside : line.left < length lab.entries = omega (arith, pair.ordered, pair.inside) in
       let l = strategy_there players contestants line.left (inside_contest line.left left_inside) in
       let r = strategy_there players contestants line.right (inside_contest line.right pair.inside) in
-      right_line vectors machines tables decide players on_the_right fits lab (entrant_at (entrants_of contestants) line.left) (entrant_at (entrants_of contestants) line.right)
-      (valid_there line.left left_inside) (valid_there line.right pair.inside) line
+      right_line vectors machines tables decide players on_the_right fits one lab (entrant_at (entrants_of contestants) line.left) (entrant_at (entrants_of contestants) line.right)
+      (valid_there line.left left_inside) (valid_there line.right pair.inside) (rw (l, r) at is.sides) line
       (rw (← is.turns) at (rw (l, r) at is.is))
 
   -- the lines with their places in the report
@@ -214,15 +215,14 @@ module _ (vectors : FollowsRule MemoryOne) (machines : FollowsRule Machine) (tab
     right_table (Err error) job_is made_is valid shows = tt
 
 -- the players of a tournament of these contestants were asked
-pub asked_table : {T E : Type 0} (players on_the_right : List Lasting) → SidesFit players on_the_right → (lab : LabData) (contestants : List Contestant) (job : TournamentJob) (made : Result T E)
-    (before now : Turns)
+pub asked_table : {T E : Type 0} (before after : BenchState) (lab : LabData) (contestants : List Contestant) (job : TournamentJob) (made : Result T E)
     → lab.jobs.tournament_job ≡ Some job → AreEntrants lab (entrants_of contestants)
-    → AreAsked (strategies_of players contestants) job.turns (tournament_pairs job (length lab.entries)) before now → IfOk made (λ _. IsAskedTournament players lab before now)
-asked_table players on_the_right fits lab contestants job (Err error) before now job_is entrants asked = tt
-asked_table players on_the_right fits lab contestants job (Ok value) before now job_is entrants asked = record {
+    → AreAskedOn before after contestants job.turns (tournament_pairs job (length lab.entries)) → IfOk made (λ _. IsAskedTournament before after lab)
+asked_table before after lab contestants job (Err error) job_is entrants asked = tt
+asked_table before after lab contestants job (Ok value) job_is entrants asked = record {
   job = job;
   job_is = job_is;
   entrants = entrants_of contestants;
   entrants_are = entrants;
-  asked = rw (same_strategies players contestants) at asked;
+  asked = rw (same_strategies (players_of before) contestants) at asked;
 }

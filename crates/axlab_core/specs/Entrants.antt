@@ -34,10 +34,15 @@ rule_player players entrant = record {
 abbrev pub automaton_of_entrant : List Lasting → Entrant → Automaton
 automaton_of_entrant players entrant = entry_automaton players entrant.sheet
 
--- what one entry expects to score against another in so many turns of a game
-abbrev pub expects_in : List Lasting → Payoffs → ℕ → Entrant → Entrant → Fraction
-expects_in players game turns own other = expected_score (rule_player players own) own.noise (rule_player players other) other.noise game 0 turns
+-- what one entry expects to score against another in so many turns of a game whose payoffs are each less by an offset
+abbrev pub expects_in : List Lasting → Payoffs → ℕ → ℕ → Entrant → Entrant → Fraction
+expects_in players game offset turns own other =
+    expected_score (rule_player players own) own.noise (rule_player players other) other.noise game offset turns
 
--- and of the lab's game
+-- the offset of a lab: labs of version 1 have none
+abbrev pub offset_of : LabData → ℕ
+offset_of lab = 0
+
+-- what one entry of a lab expects to score against another
 abbrev pub expects : List Lasting → LabData → ℕ → Entrant → Entrant → Fraction
-expects players lab turns own other = expects_in players lab.game turns own other
+expects players lab turns own other = expects_in players lab.game (offset_of lab) turns own other

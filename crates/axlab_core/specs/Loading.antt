@@ -12,10 +12,13 @@ use Rattle.lab_file.specs.LabOf.{lab_of, longest_file}
 use Rattle.lab_file.specs.Attached.{draft_with}
 use Rattle.lab_file.specs.Limits.{limits_of}
 
--- why there is no lab: the next file isn't there, or what was read is refused
+-- why a call doesn't come to its work: its words are of no listed form, the next file isn't there, what was read is refused, or
+-- a line of it is denied
 pub data Stop : Type 0 where
+  Unlisted : Stop
   Missing : Stop
   Refuses : Refusal → Stop
+  Denies : ℕ → Stop
 
 infixl 10 ◌>>=◌
 -- goes on with what there is, or stays where it stopped
@@ -31,14 +34,15 @@ abbrev pub or_stop : {A : Type 0} → Result A Refusal → Result A Stop
 or_stop (Ok x) = Ok x
 or_stop (Err refusal) = Err (Refuses refusal)
 
--- the bytes of a file as far as they are read: up to 1 MiB and a byte, so that a longer file shows
-abbrev pub front_of : List ℕ → Holding → Option (List ℕ)
-front_of name files = option_map (take (longest_file + 1)) (file_of name files)
+-- a file by its name, as far as it is read, up to a limit and a byte, so that a longer file shows: what the library holds, where
+-- it tells it; else the bytes that the read gave
+abbrev pub part_source : ℕ → Option Holding → List ℕ → List ℕ → Option (List ℕ)
+part_source limit None given name = Some given
+part_source limit (Some files) given name = option_map (take (limit + 1)) (file_of name files)
 
--- a file by its name: what the library holds, where it tells it; else the bytes that the read gave
+-- up to 1 MiB
 abbrev pub file_source : Option Holding → List ℕ → List ℕ → Option (List ℕ)
-file_source None given name = Some given
-file_source (Some files) given name = front_of name files
+file_source = part_source longest_file
 
 -- the file of the entry at a place, where the reads gave these bytes by place
 abbrev pub machine_source : Option Holding → List (List ℕ) → ℕ → List ℕ → Option (List ℕ)

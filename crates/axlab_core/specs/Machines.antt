@@ -53,7 +53,7 @@ machine_strategies players sheets = map (strategy_of_entrant players) (map still
 -- what the machine at one place expects against the one at another
 abbrev pub machine_expects : List Lasting → List SheetData → ℕ → ℕ → Fraction
 machine_expects players sheets i j =
-    expects_in players drill_game drill_job.turns (entrant_at (map still sheets) i) (entrant_at (map still sheets) j)
+    expects_in players drill_game 0 drill_job.turns (entrant_at (map still sheets) i) (entrant_at (map still sheets) j)
 
 -- the true totals of all machines
 unfoldable pub machine_totals : List Lasting → List SheetData → List Fraction

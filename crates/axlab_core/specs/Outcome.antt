@@ -1,5 +1,15 @@
--- The number of a status, and facts for one status.
-use Rattle.std.specs.Prelude.{ℕ}
+-- The number of a status, how a call may end, and facts for one status.
+use Rattle.std.specs.Prelude.{◌≡◌, ◌⊎◌, ℕ, true, List, Option, Ok, Err}
+use Rattle.lab_ports.specs.Causes.{Rose}
+use Rattle.lab_ports.specs.Holding.{Grew, GrewByPart}
+use Rattle.axlab_core.specs.declared.words.Form.{Form}
+use Rattle.axlab_core.specs.declared.words.Form.TheVariants.{Lab, Drill, Unbuilt, Faulty}
+use Rattle.axlab_core.specs.Input.{Call, Comes, Input}
+use Rattle.axlab_core.specs.Loading.{Stop, Unlisted, Missing, Refuses, Denies, IsTold}
+use Rattle.axlab_core.specs.Output.{GrewByFront}
+use Rattle.axlab_core.specs.Right.{IsServed}
+use Rattle.axlab_core.specs.Words.{needs_lab}
+use Rattle.axlab_core.specs.World.{World}
 use Rattle.axlab_core.specs.declared.status.Status.{Status}
 use Rattle.axlab_core.specs.declared.status.Status.TheVariants.{Answered, Denied, Usage, ReadFault, Refused, WriteFault, NoMemory}
 use Rattle.lab_ports.specs.declared.refusal.Refusal.{Refusal}
@@ -37,13 +47,6 @@ abbrev pub OnNoMemory : Status → Type 0 → Type 0
 OnNoMemory NoMemory p = p
 OnNoMemory _ p = Unit {0}
 
--- the output took all, or failed, or memory was wanted
-abbrev pub IsSent : Status → Type 0
-IsSent Answered = Unit {0}
-IsSent WriteFault = Unit {0}
-IsSent NoMemory = Unit {0}
-IsSent _ = ⊥
-
 -- every status but Answered, WriteFault and NoMemory
 abbrev pub OnUnwritten : Status → Type 0 → Type 0
 OnUnwritten Answered p = Unit {0}
@@ -55,3 +58,49 @@ OnUnwritten _ p = p
 abbrev pub OnOther : Status → Type 0 → Type 0
 OnOther Answered p = Unit {0}
 OnOther _ p = p
+
+-- ---- how a call may end
+
+-- there is work behind the words
+abbrev pub IsWork : Form → Type 0
+IsWork (Lab command) = Unit {0}
+IsWork (Drill number) = Unit {0}
+IsWork Unbuilt = ⊥
+IsWork Faulty = ⊥
+
+-- the output took all, a part, or a front part of a right text, for which the players were asked
+pub record Wrote (call : Call) (after : World) (Took : Option (List ℕ) → Option (List ℕ) → List ℕ → Type 0) : Type 0 where
+  pub input : Input
+  pub comes : Comes call (Ok input)
+  pub text : List ℕ
+  pub served : IsServed call.form call.before.bench after.bench input text
+  pub took : Took call.before.taken after.taken text
+
+abbrev pub IsUntouched : Call → World → Type 0
+IsUntouched call after = after.taken ≡ call.before.taken
+
+-- the words want files, and the library failed, or it tells what it holds and the next file isn't there
+abbrev pub IsUnread : Call → World → Type 0
+IsUnread call after =
+    (needs_lab call.form ≡ true) × (Rose call.before.read_faults after.read_faults ⊎ (IsTold call.before.holding × Comes call (Err Missing)))
+
+-- memory is wanted only where there is work, and then the output took nothing, or a front part of a right text
+abbrev pub LeftOff : Call → World → Type 0
+LeftOff call after = IsWork call.form × (IsUntouched call after ⊎ Wrote call after GrewByFront)
+
+-- how a call may end, by status
+abbrev pub Ends : Call → World → Status → Type 0
+Ends call after Answered = Wrote call after Grew
+Ends call after (Denied line) = Comes call (Err (Denies line)) × IsUntouched call after
+Ends call after Usage = (call.form ≡ Faulty) × IsUntouched call after
+Ends call after ReadFault = IsUnread call after × IsUntouched call after
+Ends call after (Refused refusal) = Comes call (Err (Refuses refusal)) × IsUntouched call after
+Ends call after WriteFault = Wrote call after GrewByPart × Rose call.before.write_faults after.write_faults
+Ends call after NoMemory = LeftOff call after
+
+-- the status by which a call ends that stops so
+abbrev pub status_of : Stop → Status
+status_of Unlisted = Usage
+status_of Missing = ReadFault
+status_of (Refuses refusal) = Refused refusal
+status_of (Denies line) = Denied line

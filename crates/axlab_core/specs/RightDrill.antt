@@ -1,9 +1,9 @@
 -- What the report of a drill must say: who is first among machines that are drawn from a number.
 use Rattle.std.specs.Prelude.{ℕ, ◌≡◌, List, map, slice_index_or, ℤ}
 use Rattle.std.specs.List.{AllZip}
-use Rattle.player_core.specs.State.{Lasting}
+use Rattle.player_core.specs.State.{BenchState, Lasting, players_of}
 use Rattle.fixed_span.specs.Span.{Fraction}
-use Rattle.round_robin.specs.Asked.{Turns, AreAsked}
+use Rattle.round_robin.specs.Asked.{AreAsked, bench_turns}
 use Rattle.round_robin.specs.Truth.{nothing}
 use Rattle.lab_report.specs.declared.report.Body.TheVariants as bodies
 use Rattle.lab_report.specs.declared.report.Report.{Report}
@@ -31,5 +31,6 @@ pub record IsRightDrill (players : List Lasting) (number : ℕ) (bytes : List �
   pub all : IsWhole sum (sum_of (drill_totals players number))
 
 -- the players were asked for each match of the drill
-abbrev pub IsAskedDrill : List Lasting → ℕ → Turns → Turns → Type 0
-IsAskedDrill players number before now = AreAsked (machine_strategies players (drill_sheets number)) drill_job.turns drill_pairs before now
+abbrev pub IsAskedDrill : BenchState → BenchState → ℕ → Type 0
+IsAskedDrill before after number =
+    AreAsked (machine_strategies (players_of before) (drill_sheets number)) drill_job.turns drill_pairs (bench_turns before) (bench_turns after)

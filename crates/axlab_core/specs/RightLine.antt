@@ -1,16 +1,17 @@
 -- What the line of a match must say.
 use Rattle.std.specs.Prelude.{ℕ, ◌≡◌, ◌*◌, pos, List, Option, Some, None}
-use Rattle.history_model.specs.Path.{match_path}
+use Rattle.history_model.specs.History.{History}
 use Rattle.history_model.specs.Tally.{counts, left_points, right_points}
 use Rattle.history_model.specs.declared.tally.Tally.{Tally}
-use Rattle.player_core.specs.State.{Lasting}
+use Rattle.player_core.specs.State.{BenchState, Lasting, players_of}
 use Rattle.fixed_span.specs.Span.{Holds, IsWithin, point, score_units}
 use Rattle.match_play.specs.declared.line.MatchLine.{MatchLine}
 use Rattle.product_chain.specs.Expected.{IsSureMatch, IsTight}
 use Rattle.lab_report.specs.declared.report.Report.{Report}
-use Rattle.round_robin.specs.Asked.{Turns, IsAsked}
+use Rattle.round_robin.specs.Asked.{IsAsked, bench_turns}
 use Rattle.lab_file.specs.Lab.{LabData}
-use Rattle.axlab_core.specs.Entrants.{Entrant, IsEntrant, automaton_of_entrant, expects}
+use Rattle.axlab_core.specs.ByRule.{IsOnlyByRules}
+use Rattle.axlab_core.specs.Entrants.{Entrant, IsEntrant, automaton_of_entrant, expects, rule_player}
 
 -- the report is of this lab: its head shows the lab's version, game and noise
 pub record IsOfLab (lab : LabData) (report : Report) : Type 0 where
@@ -22,10 +23,12 @@ pub record IsOfLab (lab : LabData) (report : Report) : Type 0 where
 abbrev pub IsSurePair : List Lasting → Entrant → Entrant → Type 0
 IsSurePair players left right = IsSureMatch (automaton_of_entrant players left) left.noise (automaton_of_entrant players right) right.noise
 
--- a sure match: the counts of playing every turn, and the scores of these counts
+-- a sure match: the counts of the one history in which every move follows both entries' own rules, and the scores of these counts
 pub record IsRightPlayed (players : List Lasting) (lab : LabData) (left right : Entrant) (line : MatchLine) (tally : Tally) : Type 0 where
   pub sure : IsSurePair players left right
-  pub plays : tally ≡ counts (match_path (automaton_of_entrant players left) (automaton_of_entrant players right) line.turns)
+  pub history : History
+  pub by_rules : IsOnlyByRules (rule_player players left) (rule_player players right) line.turns history
+  pub plays : tally ≡ counts history
   pub left_score : line.left_score ≡ point (pos (left_points lab.game tally * score_units))
   pub right_score : line.right_score ≡ point (pos (right_points lab.game tally * score_units))
 
@@ -57,9 +60,10 @@ pub record IsRightBetween (players : List Lasting) (lab : LabData) (left_place r
   pub score : IsRightLine players lab left right line
 
 -- their players were asked: of a sure match as long as it met new pairs of rows, of any other each row of both
-pub record IsAskedBetween (players : List Lasting) (lab : LabData) (left_place right_place turns : ℕ) (before now : Turns) : Type 0 where
+pub record IsAskedBetween (before after : BenchState) (lab : LabData) (left_place right_place turns : ℕ) : Type 0 where
   pub left : Entrant
   pub right : Entrant
   pub left_is : IsEntrant lab left_place left
   pub right_is : IsEntrant lab right_place right
-  pub asked : IsAsked (automaton_of_entrant players left) left.noise (automaton_of_entrant players right) right.noise turns before now
+  pub asked : IsAsked (automaton_of_entrant (players_of before) left) left.noise (automaton_of_entrant (players_of before) right) right.noise turns
+      (bench_turns before) (bench_turns after)

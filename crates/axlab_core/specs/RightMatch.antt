@@ -1,8 +1,7 @@
 -- What the report of a match must say.
 use Rattle.std.specs.Prelude.{◌≡◌, ℕ, List, Some}
-use Rattle.player_core.specs.State.{Lasting}
+use Rattle.player_core.specs.State.{BenchState, Lasting}
 use Rattle.match_play.specs.declared.line.MatchLine.{MatchLine}
-use Rattle.round_robin.specs.Asked.{Turns}
 use Rattle.lab_report.specs.declared.report.Body.TheVariants as bodies
 use Rattle.lab_report.specs.declared.report.Report.{Report}
 use Rattle.lab_report.specs.Names.{name_at}
@@ -27,7 +26,7 @@ pub record IsRightMatch (players : List Lasting) (lab : LabData) (bytes : List �
   pub right : IsRightBetween players lab job.left job.right job.turns line
 
 -- the players of the lab's match were asked
-pub record IsAskedMatch (players : List Lasting) (lab : LabData) (before now : Turns) : Type 0 where
+pub record IsAskedMatch (before after : BenchState) (lab : LabData) : Type 0 where
   pub job : MatchJob
   pub job_is : lab.jobs.match_job ≡ Some job
-  pub asked : IsAskedBetween players lab job.left job.right job.turns before now
+  pub asked : IsAskedBetween before after lab job.left job.right job.turns

@@ -1,12 +1,12 @@
 -- What the report of a tournament must say.
 use Rattle.std.specs.Prelude.{ℕ, ◌≡◌, ◌<◌, List, [], length, map, slice_index_or, Some}
 use Rattle.std.specs.List.{AllZip}
-use Rattle.player_core.specs.State.{Lasting, no_name}
+use Rattle.player_core.specs.State.{BenchState, Lasting, no_name, players_of}
 use Rattle.player_core.specs.declared.kind.Kind.TheVariants.{Plug}
 use Rattle.history_model.specs.Noise.{no_noise}
 use Rattle.fixed_span.specs.Span.{Fraction, Holds, score_units}
 use Rattle.match_play.specs.declared.line.MatchLine.{MatchLine}
-use Rattle.round_robin.specs.Asked.{Turns, AreAsked}
+use Rattle.round_robin.specs.Asked.{AreAsked, bench_turns}
 use Rattle.round_robin.specs.Contest.{Strategy}
 use Rattle.round_robin.specs.declared.tables.EntryLine.{EntryLine}
 use Rattle.round_robin.specs.declared.ranking.Rank.TheVariants.{At}
@@ -81,9 +81,10 @@ abbrev pub strategy_of_entrant : List Lasting → Entrant → Strategy
 strategy_of_entrant players entrant = record { automaton = automaton_of_entrant players entrant; noise = entrant.noise }
 
 -- the players of the lab's tournament were asked, for each of its matches
-pub record IsAskedTournament (players : List Lasting) (lab : LabData) (before now : Turns) : Type 0 where
+pub record IsAskedTournament (before after : BenchState) (lab : LabData) : Type 0 where
   pub job : TournamentJob
   pub job_is : lab.jobs.tournament_job ≡ Some job
   pub entrants : List Entrant
   pub entrants_are : AreEntrants lab entrants
-  pub asked : AreAsked (map (strategy_of_entrant players) entrants) job.turns (tournament_pairs job (length lab.entries)) before now
+  pub asked : AreAsked (map (strategy_of_entrant (players_of before)) entrants) job.turns (tournament_pairs job (length lab.entries))
+      (bench_turns before) (bench_turns after)

@@ -1,5 +1,5 @@
 -- How a lab is loaded, read by read.
-use Rattle.std.specs.Prelude.{◌≡◌, ◌⊎◌, ℕ, List, [], Option, Result, Ok, Err}
+use Rattle.std.specs.Prelude.{◌≡◌, ◌⊎◌, ℕ, All, List, [], Option, Result, Ok, Err}
 use Rattle.player_core.specs.declared.bench.PlugNote.{PlugNote}
 use Rattle.lab_ports.specs.declared.refusal.FileError.{FileError}
 use Rattle.lab_ports.specs.declared.refusal.FileError.TheVariants as file
@@ -9,9 +9,14 @@ use Rattle.strategy_file.specs.declared.draft.Draft.TheVariants.{Ready, FromFile
 use Rattle.lab_file.specs.declared.lab.Entry.{Entry}
 use Rattle.lab_file.specs.Lab.{LabData, entry_at}
 use Rattle.lab_file.specs.Attached.{set_draft}
+use Rattle.lab_file.specs.Limits.{limits_of}
+use Rattle.lab_file.specs.Notes.{AreNoted}
 use Rattle.axlab_core.specs.declared.load.LoadError.{LoadError}
 use Rattle.axlab_core.specs.declared.load.LoadError.TheVariants.{Unread, Refused, NoMemory}
-use Rattle.axlab_core.specs.Loading.{Stop, Missing, Refuses, file_source, machine_source, lab_read, draft_read, entries_read}
+use Rattle.lab_file.specs.declared.command.Command.{Command}
+use Rattle.axlab_core.specs.declared.second.Second.{Second}
+use Rattle.axlab_core.specs.Input.{Input, Given, Names, sources, second_for, loaded_for}
+use Rattle.axlab_core.specs.Loading.{Stop, Missing, Refuses, part_source, file_source, machine_source, lab_read, draft_read, entries_read}
 
 -- a file's error
 abbrev pub of_file : FileError → LoadError
@@ -65,3 +70,19 @@ pub record AttachesAll (holding : Option Holding) (old new : LabData) : Type 0 w
 pub record AttachAllStops (holding : Option Holding) (old : LabData) (stop : Stop) : Type 0 where
   pub given : List (List ℕ)
   pub is : entries_read (machine_source holding given) [] old.entries ≡ Err stop
+
+-- the read of the second file made this of it
+pub record ReadsSecond (command : Command) (name : List ℕ) (holding : Option Holding) (answer : Result Second Stop) : Type 0 where
+  pub given : List ℕ
+  pub is : second_for command (λ limit. part_source limit holding given name) ≡ answer
+
+-- the reads of all files made this of them
+pub record LoadsInput (command : Command) (notes : List PlugNote) (names : Names) (holding : Option Holding) (answer : Result Input Stop) : Type 0 where
+  pub given : Given
+  pub is : loaded_for command notes (sources names holding given) ≡ answer
+
+-- a lab is fit for the work of a command: the job keeps the limits, each sheet is there, and each plug is noted
+pub record IsFit (command : Command) (notes : List PlugNote) (lab : LabData) : Type 0 where
+  pub kept : limits_of notes command lab ≡ Ok tt
+  pub ready : All IsReadyEntry lab.entries
+  pub noted : AreNoted notes lab.entries

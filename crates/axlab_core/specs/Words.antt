@@ -35,6 +35,10 @@ form_of words = if has_option words then Faulty else listed_form words
 abbrev pub lab_name : List (List ℕ) → List ℕ
 lab_name words = get_or words 1 []
 
+-- the name of the second file, where there is one
+abbrev pub second_name : List (List ℕ) → List ℕ
+second_name words = get_or words 2 []
+
 -- whether the words ask for something that a lab is read for
 abbrev pub needs_lab : Form → Bool
 needs_lab (Lab command) = true

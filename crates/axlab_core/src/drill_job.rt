@@ -11,8 +11,7 @@ ghost use Rattle.lab_report.specs.Text.{report_text};
 ghost use Rattle.lab_report.specs.Valid.{IsValid, drill_game};
 ghost use Rattle.drill.specs.Drill.{drill_name};
 ghost use Rattle.axlab_core.specs.Machines.{AreMachines, AreStill, IsSmallTotal, drill_job, drill_pairs, first_of, is_first, line_at, machine_strategies, sum_of_totals, total_at};
-ghost use Rattle.axlab_core.specs.RightDrill.{IsRightDrill};
-ghost use Rattle.axlab_core.specs.OnBench.{IsAskedDrillOn};
+ghost use Rattle.axlab_core.specs.RightDrill.{IsAskedDrill, IsRightDrill};
 
 use drill::{drill_name, drill_sheets};
 use history_model::{Game, Name, NoMemory, Noise, weights_decide};
@@ -147,7 +146,7 @@ pub(crate) fn drill(alloc: Global, number: u64, bench: &mut Bench) -> Result<Rep
     requires { Fits (⟦<Bench as Seen>⟧.view bench.old) }
     ensures right { IfOk result (λ report. IsRightDrill (players_of (⟦<Bench as Seen>⟧.view bench.old)) number (report_text report)) }
     ensures valid { IfOk result IsValid }
-    ensures asked { IfOk result (λ _. IsAskedDrillOn (⟦<Bench as Seen>⟧.view bench.old) (⟦<Bench as Seen>⟧.view bench.new) number) }
+    ensures asked { IfOk result (λ _. IsAskedDrill (⟦<Bench as Seen>⟧.view bench.old) (⟦<Bench as Seen>⟧.view bench.new) number) }
     ensures kept { KeepsBench (⟦<Bench as Seen>⟧.view bench.old) (⟦<Bench as Seen>⟧.view bench.new) }
 {
     vectors_follow_their_rule();

@@ -1,12 +1,14 @@
 //! Loads the lab of a command: the lab file, then the files of its machines, then the limits.
-ghost use Rattle.std.specs.Prelude.{◌≡◌, ◌<◌, ◌≤◌, All, length, Ok, Err, IfOk, IfErr, OnOk};
+ghost use Rattle.std.specs.Prelude.{◌≡◌, ◌<◌, ◌≤◌, ◌^◌, All, length, Ok, Err, IfOk, IfErr, OnOk};
 ghost use Rattle.lab_ports.specs.Causes.{Rose};
 ghost use Rattle.lab_ports.specs.Holding.{IsFront, IsMissing};
 ghost use Rattle.lab_file.specs.Limits.{limits_of};
 ghost use Rattle.lab_file.specs.Notes.{AreNoted};
 ghost use Rattle.axlab_core.specs.Loading.{Loads, IsTold};
-ghost use Rattle.axlab_core.specs.Steps.{Attaches, AttachesAll, AttachStops, AttachAllStops, Explains, IsReadyEntry, ReadFails, ReadsLab};
+ghost use Rattle.axlab_core.specs.Steps.{Attaches, AttachesAll, AttachStops, AttachAllStops, Explains, IsFit, IsReadyEntry, LoadsInput, ReadFails, ReadsLab};
+ghost use Rattle.axlab_core.specs.Input.{OfLab};
 
+use crate::second::{Second, read_second};
 use lab_file::laws::labs_are_noted;
 use lab_file::{Command, Lab, read_lab};
 use lab_ports::{FileError, Library, LibraryError, Refusal};
@@ -15,7 +17,7 @@ use std::alloc::Global;
 use strategy_file::Draft;
 
 // The longest lab file and the longest machine file, in bytes: 1 MiB.
-const LONGEST_FILE: usize = 1_048_576;
+pub(crate) const LONGEST_FILE: usize = 1_048_576;
 
 /// Why there is no lab.
 #[derive(Clone, Copy, Debug)]
@@ -41,14 +43,20 @@ impl From<FileError> for LoadError {
     }
 }
 
-// The bytes of a file, up to 1 MiB and a byte.
-fn read_file<L: Library>(alloc: Global, name: &str, files: &mut L) -> Result<Vec<u8>, LoadError>
-    ensures front { IfOk result (λ bytes. IsFront (L.holding files.old) name.now LONGEST_FILE bytes.items) }
+/// The bytes of a file, up to a limit and a byte.
+pub(crate) fn read_file<L: Library>(
+    alloc: Global,
+    name: &str,
+    limit: usize,
+    files: &mut L,
+) -> Result<Vec<u8>, LoadError>
+    requires { limit ≤ 2 ^ 30 }
+    ensures front { IfOk result (λ bytes. IsFront (L.holding files.old) name.now limit bytes.items) }
     ensures fails { IfErr result (λ error. ReadFails error (Rose (L.faults files.old) (L.faults files.new)) (IsMissing (L.holding files.old) name.now)) }
     ensures held { L.holding files.new ≡ L.holding files.old }
     ensures later { L.faults files.old ≤ L.faults files.new }
 {
-    match files.read(alloc, name, LONGEST_FILE) {
+    match files.read(alloc, name, limit) {
         Ok(bytes) => Ok(bytes),
         Err(LibraryError::Failed) => Err(LoadError::Unread),
         Err(LibraryError::Missing) => Err(LoadError::Unread),
@@ -68,7 +76,7 @@ fn read_first<L: Library>(
     ensures held { L.holding files.new ≡ L.holding files.old }
     ensures later { L.faults files.old ≤ L.faults files.new }
 {
-    let bytes = read_file(alloc, name, files)?;
+    let bytes = read_file(alloc, name, LONGEST_FILE, files)?;
     let lab = read_lab(alloc, bytes.as_slice(), notes)?;
     Ok(lab)
 }
@@ -89,7 +97,7 @@ fn attach_file<L: Library>(
     let Draft::FromFile(machine) = &lab.entries.at(place as usize).draft else {
         return Ok(());
     };
-    let bytes = read_file(alloc, machine.file.text(), files)?;
+    let bytes = read_file(alloc, machine.file.text(), LONGEST_FILE, files)?;
     lab.attach(alloc, place, bytes.as_slice())?;
     Ok(())
 }
@@ -107,9 +115,16 @@ fn attach_files<L: Library>(alloc: Global, lab: &mut Lab, files: &mut L) -> Resu
     Ok(())
 }
 
-/// The lab of a command over these files, whose job keeps the limits. The notes are of the bench's
-/// plugs. The lab file is read first, then the file of each entry that names one, in file order.
-pub(crate) fn load_lab<L: Library>(
+/// What the files of a command give.
+#[derive(Drop)]
+pub(crate) struct Loaded {
+    pub(crate) lab: Lab,
+    pub(crate) second: Second,
+}
+
+// The lab of a command over these files, whose job keeps the limits. The notes are of the bench's
+// plugs. The lab file is read first, then the file of each entry that names one, in file order.
+fn load_lab<L: Library>(
     alloc: Global,
     command: Command,
     name: &str,
@@ -121,6 +136,8 @@ pub(crate) fn load_lab<L: Library>(
     ensures noted { IfOk result (λ lab. AreNoted notes.now.items lab.entries) }
     ensures kept { IfOk result (λ lab. limits_of notes.now.items command lab ≡ Ok tt) }
     ensures stops { IfErr result (λ error. Explains error (Rose (L.faults files.old) (L.faults files.new)) (IsTold (L.holding files.old)) (λ stop. Loads command notes.now.items name.now (L.holding files.old) (Err stop))) }
+    ensures held { L.holding files.new ≡ L.holding files.old }
+    ensures later { L.faults files.old ≤ L.faults files.new }
 {
     labs_are_noted();
     let mut lab = read_first(alloc, name, notes, files)?;
@@ -129,4 +146,22 @@ pub(crate) fn load_lab<L: Library>(
         Ok(()) => Ok(lab),
         Err(refusal) => Err(LoadError::Refused(refusal)),
     }
+}
+
+/// The lab of a command, and then what its second file gives.
+pub(crate) fn load_input<L: Library>(
+    alloc: Global,
+    command: Command,
+    name: &str,
+    second_name: &str,
+    notes: &Vec<PlugNote>,
+    files: &mut L,
+) -> Result<Loaded, LoadError>
+    ensures loads { IfOk result (λ loaded. LoadsInput command notes.now.items (record { lab = name.now; second = second_name.now }) (L.holding files.old) (Ok (OfLab loaded.lab loaded.second))) }
+    ensures fit { IfOk result (λ loaded. IsFit command notes.now.items loaded.lab) }
+    ensures stops { IfErr result (λ error. Explains error (Rose (L.faults files.old) (L.faults files.new)) (IsTold (L.holding files.old)) (λ stop. LoadsInput command notes.now.items (record { lab = name.now; second = second_name.now }) (L.holding files.old) (Err stop))) }
+{
+    let lab = load_lab(alloc, command, name, notes, files)?;
+    let second = read_second(alloc, command, second_name, files)?;
+    Ok(Loaded { lab, second })
 }

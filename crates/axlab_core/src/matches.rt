@@ -13,12 +13,11 @@ ghost use Rattle.lab_file.specs.Notes.{AreNoted};
 ghost use Rattle.lab_file.specs.Sure.{entry_is_sure};
 ghost use Rattle.lab_file.specs.Limits.{match_limits, limits_of};
 ghost use Rattle.axlab_core.specs.Entrants.{IsEntrant};
-ghost use Rattle.axlab_core.specs.RightLine.{IsRightBetween};
-ghost use Rattle.axlab_core.specs.RightMatch.{IsRightMatch};
-ghost use Rattle.axlab_core.specs.OnBench.{IsAskedBetweenOn, IsAskedMatchOn};
+ghost use Rattle.axlab_core.specs.RightLine.{IsAskedBetween, IsRightBetween};
+ghost use Rattle.axlab_core.specs.RightMatch.{IsAskedMatch, IsRightMatch};
 ghost use Rattle.axlab_core.specs.Steps.{IsReadyEntry};
 
-use history_model::{NoMemory, counts_are_paid, weights_decide};
+use history_model::{NoMemory, counts_are_paid, path_is_one, weights_decide};
 use lab_file::laws::notes_tell;
 use lab_file::{Lab, MatchJob, entry_is_sure};
 use lab_report::Report;
@@ -92,7 +91,7 @@ fn job_line(
     requires noted { AreNoted notes.now.items lab.now.entries }
     ensures right { IfOk result (IsRightBetween (players_of (⟦<Bench as Seen>⟧.view bench.old)) lab.now job.now.left job.now.right job.now.turns) }
     ensures showable { IfOk result (IsShowable lab.now.game) }
-    ensures asked { IfOk result (λ _. IsAskedBetweenOn (⟦<Bench as Seen>⟧.view bench.old) (⟦<Bench as Seen>⟧.view bench.new) lab.now job.now.left job.now.right job.now.turns) }
+    ensures asked { IfOk result (λ _. IsAskedBetween (⟦<Bench as Seen>⟧.view bench.old) (⟦<Bench as Seen>⟧.view bench.new) lab.now job.now.left job.now.right job.now.turns) }
     ensures kept { KeepsBench (⟦<Bench as Seen>⟧.view bench.old) (⟦<Bench as Seen>⟧.view bench.new) }
 {
     notes_tell();
@@ -100,6 +99,7 @@ fn job_line(
     machines_follow_their_rule();
     tables_follow_their_rule();
     weights_decide();
+    path_is_one();
     counts_are_paid();
     let left = entrant(lab, job.left);
     let right = entrant(lab, job.right);
@@ -148,7 +148,7 @@ pub(crate) fn lab_match(
     requires noted { AreNoted notes.now.items lab.now.entries }
     ensures right { IfOk result (λ report. IsRightMatch (players_of (⟦<Bench as Seen>⟧.view bench.old)) lab.now (report_text report)) }
     ensures valid { IfOk result IsValid }
-    ensures asked { IfOk result (λ _. IsAskedMatchOn (⟦<Bench as Seen>⟧.view bench.old) (⟦<Bench as Seen>⟧.view bench.new) lab.now) }
+    ensures asked { IfOk result (λ _. IsAskedMatch (⟦<Bench as Seen>⟧.view bench.old) (⟦<Bench as Seen>⟧.view bench.new) lab.now) }
     ensures kept { KeepsBench (⟦<Bench as Seen>⟧.view bench.old) (⟦<Bench as Seen>⟧.view bench.new) }
 {
     let job = match_job(lab, notes);

@@ -13,13 +13,12 @@ ghost use Rattle.lab_file.specs.Notes.{AreNoted};
 ghost use Rattle.lab_file.specs.Limits.{tournament_limits, limits_of};
 ghost use Rattle.lab_file.specs.Tournament.{tournament_pairs};
 ghost use Rattle.axlab_core.specs.Contestants.{AreFirst, IsContestantOf, names_of};
-ghost use Rattle.axlab_core.specs.RightTournament.{IsRightTournament};
+ghost use Rattle.axlab_core.specs.RightTournament.{IsAskedTournament, IsRightTournament};
 ghost use Rattle.round_robin.specs.OnBench.{AreAskedOn, strategies_on};
-ghost use Rattle.axlab_core.specs.OnBench.{IsAskedTournamentOn};
 ghost use Rattle.axlab_core.specs.Steps.{IsReadyEntry};
 
 use crate::matches::entrant;
-use history_model::{Name, NoMemory, weights_decide};
+use history_model::{Name, NoMemory, path_is_one, weights_decide};
 use lab_file::laws::{matches_are_kept, notes_tell, tournaments_ascend};
 use lab_file::{Lab, TournamentJob, entry_is_sure};
 use lab_report::Report;
@@ -147,13 +146,14 @@ pub(crate) fn lab_tournament(
     requires noted { AreNoted notes.now.items lab.now.entries }
     ensures right { IfOk result (λ report. IsRightTournament (players_of (⟦<Bench as Seen>⟧.view bench.old)) lab.now (report_text report)) }
     ensures valid { IfOk result IsValid }
-    ensures asked { IfOk result (λ _. IsAskedTournamentOn (⟦<Bench as Seen>⟧.view bench.old) (⟦<Bench as Seen>⟧.view bench.new) lab.now) }
+    ensures asked { IfOk result (λ _. IsAskedTournament (⟦<Bench as Seen>⟧.view bench.old) (⟦<Bench as Seen>⟧.view bench.new) lab.now) }
     ensures kept { KeepsBench (⟦<Bench as Seen>⟧.view bench.old) (⟦<Bench as Seen>⟧.view bench.new) }
 {
     vectors_follow_their_rule();
     machines_follow_their_rule();
     tables_follow_their_rule();
     weights_decide();
+    path_is_one();
     tournaments_ascend();
     tournaments_are_true();
     let job = tournament_job(lab, notes);

@@ -69,4 +69,4 @@ returns-clause-right g c =
     (to_z-of_z w128 c.sum_of_totals-sum.result fits) c.drill_report.ensures.report c.drill_report.ensures.valid c.drill_report.ensures.shows
 
 pub returns-clause-asked : goal.returns-clause-asked
-returns-clause-asked g c = asked_if _ _ c.requires c.args.number c.as_slice.result.now _ _ c.drill_report.result (c.as_slice.ensures.value ∙ c.in_ok-sheets.ensures.sheets) c.in_ok-results.ensures.asked
+returns-clause-asked g c = asked_if _ _ c.args.number c.as_slice.result.now c.drill_report.result (c.as_slice.ensures.value ∙ c.in_ok-sheets.ensures.sheets) c.in_ok-results.ensures.asked

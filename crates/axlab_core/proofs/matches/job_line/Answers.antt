@@ -24,9 +24,9 @@ match_line-requires-clause-sure g c =
 
 pub returns-clause-right : goal.returns-clause-right
 returns-clause-right g c =
-    right_between c.vectors_follow_their_rule.ensures c.machines_follow_their_rule.ensures c.tables_follow_their_rule.ensures c.weights_decide.ensures _ _ c.requires.fits c.args.lab.now
+    right_between c.vectors_follow_their_rule.ensures c.machines_follow_their_rule.ensures c.tables_follow_their_rule.ensures c.weights_decide.ensures _ _ c.requires.fits c.path_is_one.ensures c.args.lab.now
     (record { sheet = c.entrant-left.result.sheet.now; noise = c.entrant-left.result.noise }) (record { sheet = c.entrant-right.result.sheet.now; noise = c.entrant-right.result.noise })
-    c.entrant-left.ensures.sheet c.entrant-right.ensures.sheet c.args.job.now.left c.args.job.now.right c.args.job.now.turns _ _ (ap (λ (l : LabData). l.game) c.lab.view_is)
+    c.entrant-left.ensures.sheet c.entrant-right.ensures.sheet c.in_ok-line.ensures.sides c.args.job.now.left c.args.job.now.right c.args.job.now.turns _ _ (ap (λ (l : LabData). l.game) c.lab.view_is)
     c.entrant-left.ensures.is c.entrant-right.ensures.is c.in_ok-line.ensures.turns c.in_ok-line.ensures.line
 
 pub returns-clause-showable : goal.returns-clause-showable

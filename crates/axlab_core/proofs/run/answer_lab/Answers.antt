@@ -1,15 +1,18 @@
-use Rattle.lab_report.specs.Text.{report_text}
-use Rattle.axlab_core.proofs.Noting.{loads_here}
+use Rattle.axlab_core.specs.declared.words.Form.TheVariants.{Lab}
+use Rattle.axlab_core.specs.Input.{OfLab}
+use Rattle.std.proofs.Common.{refl}
+use Rattle.axlab_core.proofs.Ending.{delivers_as, reads_lab_input, unread_lab}
 use Rattle.axlab_core.proofs.run.answer_lab.Goals as goal
 
-pub returns-in-Ok-send_report-clause-answered : goal.returns-in-Ok-send_report-clause-answered
-returns-in-Ok-send_report-clause-answered g c = record {
-  text = report_text c.in-Ok-command_report.report;
-  promised = record {
-    lab = c.in-Ok.lab;
-    loads = loads_here _ _ _ _ _ _ _ c.requires.fits c.requires.notes c.in-Ok.ensures.loads;
-    right = c.in-Ok-command_report.ensures.right;
-  };
-  asked = c.in-Ok-command_report.ensures.asked;
-  took = c.in-Ok-send_report.ensures.sent;
-}
+pub returns-in-Ok-clause-ends : goal.returns-in-Ok-clause-ends
+returns-in-Ok-clause-ends g c =
+    delivers_as _ _ (OfLab c.in-Ok.loaded.lab c.in-Ok.loaded.second) c.serve-served.result c.deliver.result (Lab c.args.command) c.requires.form
+    (reads_lab_input _ c.args.command c.args.notes.now.items _ c.requires.form c.requires.notes (rw (c.lab_name.ensures, c.second_name.ensures) at c.in-Ok.ensures.loads))
+    c.serve-served.ensures.served c.deliver.ensures
+
+pub returns-in-Err-Unread-clause-ends : goal.returns-in-Err-Unread-clause-ends
+returns-in-Err-Unread-clause-ends g c = (
+  unread_lab _ _ _ c.args.command c.args.notes.now.items c.in-Err-Unread.field-0 c.requires.form c.requires.notes c.in-Err-Unread.field-0-is
+      (rw (c.lab_name.ensures, c.second_name.ensures) at c.in-Err-Unread.ensures.stops),
+  refl,
+)
