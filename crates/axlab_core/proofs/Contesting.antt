@@ -25,7 +25,7 @@ use Rattle.lab_file.specs.Tournament.{TournamentsAscend, tournament_pairs}
 use Rattle.axlab_core.specs.Contestants.{IsContestantOf, AreFirst, entrant_of, entrants_of, names_of}
 use Rattle.axlab_core.specs.Entrants.{Entrant, IsEntrant}
 use Rattle.axlab_core.specs.RightTournament.{AreEntrants, entrant_at, no_entrant, strategy_of_entrant}
-use Rattle.axlab_core.proofs.Entries.{entrant_known, one_sure, sure_one, sure_pair}
+use Rattle.axlab_core.proofs.Entries.{entrant_known, sure_pair}
 
 -- ---- places
 
@@ -50,8 +50,8 @@ same_strategies players [] = refl
 same_strategies players (c ∷ cs) = ap (λ (rest : List Strategy). strategy_of players c ∷ rest) (same_strategies players cs)
 
 -- the contestants of a lab are its entries
-pub are_entrants : (notes : List PlugNote) (lab : LabData) (contestants : List Contestant) → AreFirst notes lab (length lab.entries) contestants → AreEntrants lab (entrants_of contestants)
-are_entrants notes lab contestants first = record {
+pub are_entrants : (lab : LabData) (contestants : List Contestant) → AreFirst lab (length lab.entries) contestants → AreEntrants lab (entrants_of contestants)
+are_entrants lab contestants first = record {
   count = length-map contestants entrant_of ∙ first.count_is;
   each = λ place inside.
       entrant_there contestants place (omega (arith, inside, first.count_is)) (IsEntrant lab place) (λ none. (first.each place none inside).is);
@@ -81,7 +81,7 @@ few_turns_by : (sure : Bool) (left right turns : ℕ) → sure ≡ false → lim
 few_turns_by true left right turns unsure kept = absurd (cc)
 few_turns_by false left right turns unsure kept = ltb-false 10000 turns (not_long (nat_lt 10000 turns) (nat_lt 30000000 (left * right * turns)) kept)
 
-module _ (tell : NotesTell) (players on_the_right : List Lasting) (fits : SidesFit players on_the_right) (notes : List PlugNote) (lab : LabData) (here : notes ≡ notes_of players) (noted : AreNoted notes lab.entries) (contestants : List Contestant) (first : AreFirst notes lab (length lab.entries) contestants) where
+module _ (tell : NotesTell) (players on_the_right : List Lasting) (fits : SidesFit players on_the_right) (notes : List PlugNote) (lab : LabData) (here : notes ≡ notes_of players) (noted : AreNoted notes lab.entries) (contestants : List Contestant) (first : AreFirst lab (length lab.entries) contestants) where
   within_lab : (place : ℕ) → place < length contestants → place < length lab.entries
   within_lab place inside = omega (arith, inside, first.count_is)
 
@@ -89,17 +89,10 @@ module _ (tell : NotesTell) (players on_the_right : List Lasting) (fits : SidesF
   within_contest place inside = omega (arith, inside, first.count_is)
 
   entrants : AreEntrants lab (entrants_of contestants)
-  entrants = are_entrants notes lab contestants first
+  entrants = are_entrants lab contestants first
 
-  is_contestant : (place : ℕ) (contestant : Contestant) → place < length lab.entries → IsContestantOf notes lab place contestant → IsContestant players contestant
-  is_contestant place contestant inside is = record {
-    known = entrant_known tell players on_the_right fits notes lab here noted place (entrant_of contestant) inside is.is;
-    sure = (
-      (λ t. let s = one_sure tell players on_the_right fits notes lab here noted place (entrant_of contestant) inside is.is (rw is.sure at t) in
-          record { automaton = s.1; still = s.0 }),
-      (λ s. rw is.sure (sure_one tell players on_the_right fits notes lab here noted place (entrant_of contestant) inside is.is s.still s.automaton)),
-    );
-  }
+  is_contestant : (place : ℕ) (contestant : Contestant) → place < length lab.entries → IsContestantOf lab place contestant → IsContestant players contestant
+  is_contestant place contestant inside is = entrant_known tell players on_the_right fits notes lab here noted place (entrant_of contestant) inside is.is
 
   pub are_contestants : AreEntries lab.entries → AreContestants players contestants
   are_contestants entries = record {
@@ -135,18 +128,18 @@ module _ (tell : NotesTell) (players on_the_right : List Lasting) (fits : SidesF
             few_turns_by (pair_is_sure notes lab.entries pair) (entry_rows notes (entry_at lab.entries pair.0)) (entry_rows notes (entry_at lab.entries pair.1)) job.turns e keeps
 
 -- one more of the first entries
-pub first_more : (notes : List PlugNote) (lab : LabData) (place : ℕ) (contestants : List Contestant) (contestant : Contestant)
-    → AreFirst notes lab place contestants → IsContestantOf notes lab place contestant → AreFirst notes lab (place + 1) (contestants ++ contestant ∷ [])
-first_more notes lab place contestants contestant first is = record {
+pub first_more : (lab : LabData) (place : ℕ) (contestants : List Contestant) (contestant : Contestant)
+    → AreFirst lab place contestants → IsContestantOf lab place contestant → AreFirst lab (place + 1) (contestants ++ contestant ∷ [])
+first_more lab place contestants contestant first is = record {
   count_is = length_push contestants contestant ∙ ap (λ n. n + 1) first.count_is;
   each = λ k none inside. elim (cases_lt k place) [
-    | inl before ↦ subst (IsContestantOf notes lab k) (sym (get_or_append_left contestants (contestant ∷ []) none k (omega (arith, before, first.count_is)))) (first.each k none before)
+    | inl before ↦ subst (IsContestantOf lab k) (sym (get_or_append_left contestants (contestant ∷ []) none k (omega (arith, before, first.count_is)))) (first.each k none before)
     | inr here ↦
         let at : k ≡ length contestants = omega (arith, here, inside, first.count_is) in
         let same : k ≡ place = omega (arith, at, first.count_is) in
         let there : get_or (contestants ++ contestant ∷ []) k none ≡ contestant = get_or_push contestants contestant none k (sym at) in
-        let P : ℕ → Type 0 = λ n. IsContestantOf notes lab n contestant in
-        subst (IsContestantOf notes lab k) (sym there) (subst P (sym same) is)
+        let P : ℕ → Type 0 = λ n. IsContestantOf lab n contestant in
+        subst (IsContestantOf lab k) (sym there) (subst P (sym same) is)
   ];
 }
 

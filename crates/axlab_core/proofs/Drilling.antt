@@ -54,13 +54,13 @@ not_plug kind is plug = cc
 
 module _ (players : List Lasting) (sheets : List SheetData) (contestants : List Contestant) (are : AreMachines sheets) (held : AreStill sheets contestants) where
   as_many : length contestants ≡ 64
-  as_many = sym (length-map contestants entrant_of) ∙ ap length held.entrants ∙ length-map sheets still ∙ are.many
+  as_many = sym (length-map contestants entrant_of) ∙ ap length held ∙ length-map sheets still ∙ are.many
 
   -- the contestant at a place is a machine whose moves are never flipped
   pub entrant_is : (k : ℕ) (c : Contestant) (s : SheetData) → k < 64 → entrant_of (get_or contestants k c) ≡ still (get_or sheets k s)
   entrant_is k c s inside =
       sym (get_or-map entrant_of contestants k c (entrant_of c) (omega (arith, inside, as_many)))
-      ∙ ap (λ es. get_or es k (entrant_of c)) held.entrants
+      ∙ ap (λ es. get_or es k (entrant_of c)) held
       ∙ get_or-map still sheets k s (entrant_of c) (omega (arith, inside, are.many))
 
   kind_is : (k : ℕ) (c : Contestant) → k < 64 → (get_or contestants k c).sheet.now.kind ≡ Machine
@@ -79,10 +79,7 @@ module _ (players : List Lasting) (sheets : List SheetData) (contestants : List 
   }
 
   contestant_is : (k : ℕ) (c : Contestant) → k < 64 → IsContestant players (get_or contestants k c)
-  contestant_is k c inside = record {
-    known = λ (none : NoPlugNamed players (get_or contestants k c).sheet.now). not_plug _ (kind_is k c inside) none.plug;
-    sure = ((λ t. sure_is k c inside), (λ s. held.sure k c (omega (arith, inside, as_many))));
-  }
+  contestant_is k c inside = λ (none : NoPlugNamed players (get_or contestants k c).sheet.now). not_plug _ (kind_is k c inside) none.plug
 
   pub are_contestants : AreContestants players contestants
   are_contestants = record {
@@ -120,10 +117,10 @@ pub record ArePlayed (sheets : List SheetData) (contestants : List Contestant) (
 
 module _ (players right : List Lasting) (fits : SidesFit players right) (sheets : List SheetData) (contestants : List Contestant) (pairs : List (ℕ × ℕ)) (p : ArePlayed sheets contestants pairs) where
   pub many_contestants : length contestants ≡ 64
-  many_contestants = sym (length-map contestants entrant_of) ∙ ap length p.still.entrants ∙ length-map sheets still ∙ p.machines.many
+  many_contestants = sym (length-map contestants entrant_of) ∙ ap length p.still ∙ length-map sheets still ∙ p.machines.many
 
   pub strategies_are : strategies_of players contestants ≡ machine_strategies players sheets
-  strategies_are = same_strategies players contestants ∙ ap (map (strategy_of_entrant players)) p.still.entrants
+  strategies_are = same_strategies players contestants ∙ ap (map (strategy_of_entrant players)) p.still
 
   pub pairs_same : pairs ≡ drill_pairs
   unfolding drill_pairs

@@ -33,12 +33,12 @@ module _ (tell : NotesTell) (players on_the_right : List Lasting) (fits : SidesF
         let sheet : IsNoted notes entrant.sheet = rw is.sheet at own in
         rw here at sheet
 
-    pub one_sure : entry_is_sure notes (entry_at lab.entries place) ≡ true → (entrant.noise.n ≡ 0) × IsSure (entry_automaton players entrant.sheet)
+    one_sure : entry_is_sure notes (entry_at lab.entries place) ≡ true → (entrant.noise.n ≡ 0) × IsSure (entry_automaton players entrant.sheet)
     one_sure e =
         let t = (tell.sure players (entry_at lab.entries place) entrant.sheet is.sheet sheet_noted).0 (rw here at e) in
         (rw is.noise at t.0, t.1)
 
-    pub sure_one : entrant.noise.n ≡ 0 → IsSure (entry_automaton players entrant.sheet) → entry_is_sure notes (entry_at lab.entries place) ≡ true
+    sure_one : entrant.noise.n ≡ 0 → IsSure (entry_automaton players entrant.sheet) → entry_is_sure notes (entry_at lab.entries place) ≡ true
     sure_one still sure =
         rw here ((tell.sure players (entry_at lab.entries place) entrant.sheet is.sheet sheet_noted).1 (rw is.noise still, sure))
 

@@ -6,7 +6,6 @@ use Rattle.std.proofs.lemmas.List.Elements.{All-head, All-tail}
 use Rattle.std.proofs.lemmas.List.FromFn.{get_or-map-range_with_len, get_or-range_with_len, length-range_with_len}
 use Rattle.history_model.specs.Expectation.{WeightsDecide}
 use Rattle.history_model.specs.Path.{PathIsOne}
-use Rattle.player_core.specs.declared.bench.PlugNote.{PlugNote}
 use Rattle.player_core.specs.declared.kind.Kind.TheVariants.{MemoryOne, Machine, Lookup}
 use Rattle.player_core.specs.State.{BenchState, Lasting, players_of}
 use Rattle.player_core.specs.Sheet.{IsSheet}
@@ -86,7 +85,7 @@ first_same x y xs ys e = cc
 rest_same : {X : Type 0} (x y : X) (xs ys : List X) → x ∷ xs ≡ y ∷ ys → xs ≡ ys
 rest_same x y xs ys e = cc
 
-module _ (vectors : FollowsRule MemoryOne) (machines : FollowsRule Machine) (tables : FollowsRule Lookup) (decide : WeightsDecide) (one : PathIsOne) (players on_the_right : List Lasting) (fits : SidesFit players on_the_right) (notes : List PlugNote) (lab : LabData) (contestants : List Contestant) (first : AreFirst notes lab (length lab.entries) contestants) where
+module _ (vectors : FollowsRule MemoryOne) (machines : FollowsRule Machine) (tables : FollowsRule Lookup) (decide : WeightsDecide) (one : PathIsOne) (players on_the_right : List Lasting) (fits : SidesFit players on_the_right) (lab : LabData) (contestants : List Contestant) (first : AreFirst lab (length lab.entries) contestants) where
   inside_contest : (place : ℕ) → place < length lab.entries → place < length contestants
   inside_contest place inside = omega (arith, inside, first.count_is)
 
@@ -198,7 +197,7 @@ module _ (vectors : FollowsRule MemoryOne) (machines : FollowsRule Machine) (tab
           job = job;
           job_is = job_is;
           entrants = entrants_of contestants;
-          entrants_are = are_entrants notes lab contestants first;
+          entrants_are = are_entrants lab contestants first;
           report = table;
           valid = valid_so;
           text = refl;

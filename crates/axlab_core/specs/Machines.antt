@@ -39,10 +39,9 @@ pub record AreMachines (sheets : List SheetData) : Type 0 where
 abbrev pub still : SheetData → Entrant
 still sheet = record { sheet = sheet; noise = no_noise }
 
--- contestants of these sheets, whose moves are never flipped, and which are marked as sure
-pub record AreStill (sheets : List SheetData) (contestants : List Contestant) : Type 0 where
-  pub entrants : entrants_of contestants ≡ map still sheets
-  pub sure : All (λ contestant. contestant.sure ≡ true) contestants
+-- contestants of these sheets, whose moves are never flipped
+abbrev pub AreStill : List SheetData → List Contestant → Type 0
+AreStill sheets contestants = entrants_of contestants ≡ map still sheets
 
 -- what they play on the bench
 abbrev pub machine_strategies : List Lasting → List SheetData → List Strategy

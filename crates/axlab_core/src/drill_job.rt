@@ -43,11 +43,7 @@ fn contestants<'a>(
 {
     let mut contestants = Vec::new(alloc);
     for sheet in sheets {
-        contestants.push(Contestant {
-            sheet,
-            noise,
-            sure: true,
-        })?;
+        contestants.push(Contestant { sheet, noise })?;
     }
     Ok(contestants)
 }

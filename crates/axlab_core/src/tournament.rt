@@ -20,7 +20,7 @@ ghost use Rattle.axlab_core.specs.Steps.{IsReadyEntry};
 use crate::matches::entrant;
 use history_model::{Name, NoMemory, path_is_one, weights_decide};
 use lab_file::laws::{matches_are_kept, notes_tell, tournaments_ascend};
-use lab_file::{Lab, TournamentJob, entry_is_sure};
+use lab_file::{Lab, TournamentJob};
 use lab_report::Report;
 use lookup_player::tables_follow_their_rule;
 use machine_player::machines_follow_their_rule;
@@ -46,31 +46,25 @@ fn tournament_job<'a>(lab: &'a Lab, notes: &Vec<PlugNote>) -> &'a TournamentJob
 }
 
 // The entry at a place, as a contestant.
-fn contestant<'a>(lab: &'a Lab, notes: &Vec<PlugNote>, place: u32) -> Contestant<'a>
+fn contestant(lab: &Lab, place: u32) -> Contestant<'_>
     requires inside { place < length lab.now.entries }
     requires ready { All IsReadyEntry lab.now.entries }
-    ensures { IsContestantOf notes.now.items lab.now place result }
+    ensures { IsContestantOf lab.now place result }
 {
-    let entry = lab.entries.at(place as usize);
     Contestant {
         sheet: entrant(lab, place).sheet,
-        noise: &entry.noise,
-        sure: entry_is_sure(notes, entry),
+        noise: &lab.entries.at(place as usize).noise,
     }
 }
 
 // All entries, in file order.
-fn contestants<'a>(
-    alloc: Global,
-    lab: &'a Lab,
-    notes: &Vec<PlugNote>,
-) -> Result<Vec<Contestant<'a>>, NoMemory>
+fn contestants(alloc: Global, lab: &Lab) -> Result<Vec<Contestant<'_>>, NoMemory>
     requires ready { All IsReadyEntry lab.now.entries }
-    ensures { IfOk result (λ contestants. AreFirst notes.now.items lab.now (length lab.now.entries) contestants.items) }
+    ensures { IfOk result (λ contestants. AreFirst lab.now (length lab.now.entries) contestants.items) }
 {
     let mut contestants = Vec::new(alloc);
     for place in 0..lab.entries.len() as u32 {
-        contestants.push(contestant(lab, notes, place))?;
+        contestants.push(contestant(lab, place))?;
     }
     Ok(contestants)
 }
@@ -100,7 +94,7 @@ fn results(
     requires sound { IsTournamentJob (length lab.now.entries) job.now }
     requires limits { tournament_limits notes.now.items lab.now.entries job.now ≡ Ok tt }
     requires noted { AreNoted notes.now.items lab.now.entries }
-    requires contestants { AreFirst notes.now.items lab.now (length lab.now.entries) contestants.now }
+    requires contestants { AreFirst lab.now (length lab.now.entries) contestants.now }
     ensures lines { IfOk result (λ totals. AreLines (strategies_on (⟦<Bench as Seen>⟧.view bench.old) contestants.now) lab.now.game job.now.turns (tournament_pairs job.now (length lab.now.entries)) totals.matches) }
     ensures entries { IfOk result (λ totals. totals.entries ≡ entries_of (length lab.now.entries) totals.matches) }
     ensures showable { IfOk result (AreResults (length lab.now.entries) lab.now.game) }
@@ -157,7 +151,7 @@ pub(crate) fn lab_tournament(
     tournaments_ascend();
     tournaments_are_true();
     let job = tournament_job(lab, notes);
-    let contestants = contestants(alloc, lab, notes)?;
+    let contestants = contestants(alloc, lab)?;
     let results = results(alloc, lab, notes, job, &contestants, bench)?;
     table_report(alloc, lab, &results)
 }

@@ -4,6 +4,6 @@ use Rattle.axlab_core.proofs.tournament.contestants.Given as goal
 
 abbrev pub invariant-loop-place : goal.invariant-loop-place
 invariant-loop-place l = record {
-  first : AreFirst l.notes.items l.lab l.place l.contestants.items;
+  first : AreFirst l.lab l.place l.contestants.items;
   last : l.place-end ≡ length l.lab.entries;
 }
