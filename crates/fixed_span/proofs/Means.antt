@@ -1,7 +1,8 @@
 -- Weighted sums, their floors and ceilings, and what a mix holds.
-use Rattle.std.proofs.Common.{ℕ, suc, ◌+◌, ◌*◌, ◌≡◌, ℤ, pos, ◌+ℤ◌, ◌*ℤ◌, ◌≤ℤ◌, ◌<ℤ◌, List, [], ◌∷◌, length, get_or, sum, sym, ap, ◌∙◌, arith}
+use Rattle.std.proofs.Common.{ℕ, suc, ◌+◌, ◌*◌, ◌≡◌, ◌<◌, ℤ, pos, ◌+ℤ◌, ◌*ℤ◌, ◌≤ℤ◌, ◌<ℤ◌, List, [], ◌∷◌, length, get_or, sum, sym, ap, ◌∙◌, arith}
 use Rattle.std.specs.List.{All}
 use Rattle.std.proofs.lemmas.Int.{ints}
+use Rattle.std.proofs.Math.Nat.{mul-pos}
 use Rattle.fixed_span.specs.Span.{Ends, over, add, Holds, IsWithin}
 use Rattle.fixed_span.specs.Mix.{IsFloor, IsCeiling, weighted, lows, highs, AllHold, sum_of_four}
 use Rattle.fixed_span.proofs.Signed.{*ℤ-+ℤ, +ℤ-*ℤ, *ℤ_assoc, *ℤ-le, *ℤ-le_left, *ℤ-lt_back}
@@ -71,12 +72,19 @@ high_mean units (w ∷ ws) (s ∷ ss) (x ∷ xs) d h =
 end_times : (r : ℤ) (q d : ℕ) → r *ℤ pos (q * d) ≡ (r *ℤ pos q) *ℤ pos d
 end_times r q d = let e : pos (q * d) ≡ pos q *ℤ pos d = omega (arith, ints) in ap (λ z. r *ℤ z) e ∙ sym (*ℤ_assoc r (pos q) (pos d))
 
-pub mix_holds : (units : ℕ) (ws : List ℕ) (ss : List Ends) (xs : List ℤ) (d q : ℕ) (r : Ends) → IsFloor (weighted ws (lows ss)) q r.lo → IsCeiling (weighted ws (highs ss)) q r.hi
+-- where there is a span, the denominator is above 0
+some_parts : (units : ℕ) (ss : List Ends) (xs : List ℤ) (d : ℕ) → 0 < length ss → AllHold units ss xs d → 0 < d
+some_parts units [] xs d some h = absurd (omega (arith, some))
+some_parts units (s ∷ ss) [] d some h = absurd h
+some_parts units (s ∷ ss) (x ∷ xs) d some h = h.0.above_zero
+
+pub mix_holds : (units : ℕ) (ws : List ℕ) (ss : List Ends) (xs : List ℤ) (d q : ℕ) (r : Ends) → 0 < q → 0 < length ss → IsFloor (weighted ws (lows ss)) q r.lo → IsCeiling (weighted ws (highs ss)) q r.hi
     → AllHold units ss xs d → Holds units r (over (weighted ws xs) (q * d))
-mix_holds units ws ss xs d q r f g h =
+mix_holds units ws ss xs d q r positive some f g h =
     let below = *ℤ-le (r.lo *ℤ pos q) (weighted ws (lows ss)) d f.below in
     let above = *ℤ-le (weighted ws (highs ss)) (r.hi *ℤ pos q) d g.above in
     record {
+      above_zero = mul-pos positive (some_parts units ss xs d some h);
       low = omega (arith, ints, end_times r.lo q d, below, low_mean units ws ss xs d h);
       high = omega (arith, ints, end_times r.hi q d, above, high_mean units ws ss xs d h);
     }
@@ -116,6 +124,7 @@ pub sum_holds : (units : ℕ) (a b : Ends) (x y : ℤ) (d : ℕ) → Holds units
 sum_holds units a b x y d h k =
     let right = *ℤ-+ℤ (pos units) x y in
     record {
+      above_zero = h.above_zero;
       low = omega (arith, ints, +ℤ-*ℤ a.lo b.lo (pos d), right, h.low, k.low);
       high = omega (arith, ints, +ℤ-*ℤ a.hi b.hi (pos d), right, h.high, k.high);
     }

@@ -48,7 +48,7 @@ touching units p q v x y pu k m =
     let low_end : (v *ℤ pos q) *ℤ pos p ≡ v *ℤ pos (p * q) = *ℤ_assoc v (pos q) (pos p) ∙ ap (λ z. v *ℤ z) (omega (arith, ints)) in
     *ℤ-le_back (x *ℤ pos q) (y *ℤ pos p) units pu (omega (arith, ints, first, second, up_end, low_end, turned units q x, turned units p y))
 
-module _ (units : ℕ) (a b : Ends) (x y : Fraction) (pu : 0 < units) (px : 0 < x.denominator) (py : 0 < y.denominator) (h : Holds units a x) (k : Holds units b y) where
+module _ (units : ℕ) (a b : Ends) (x y : Fraction) (pu : 0 < units) (h : Holds units a x) (k : Holds units b y) where
   by_level : (t : Bool) → t ≡ is_level a b → IsTrueOf (cond t Level Undecided) x y
   by_level false e = tt
   by_level true e =
@@ -65,12 +65,12 @@ module _ (units : ℕ) (a b : Ends) (x y : Fraction) (pu : 0 < units) (px : 0 < 
       omega (arith, ints, up_to, down_to)
 
   by_greater : (t : Bool) → t ≡ int_lt b.hi a.lo → IsTrueOf (cond t Greater (cond (is_level a b) Level Undecided)) x y
-  by_greater true e = apart units y.denominator x.denominator b.hi a.lo y.numerator x.numerator pu py px (less_is b.hi a.lo (sym e)) k.high h.low
+  by_greater true e = apart units y.denominator x.denominator b.hi a.lo y.numerator x.numerator pu k.above_zero h.above_zero (less_is b.hi a.lo (sym e)) k.high h.low
   by_greater false e = by_level (is_level a b) refl
 
   by_less : (t : Bool) → t ≡ int_lt a.hi b.lo → IsTrueOf (cond t Less (cond (int_lt b.hi a.lo) Greater (cond (is_level a b) Level Undecided))) x y
-  by_less true e = apart units x.denominator y.denominator a.hi b.lo x.numerator y.numerator pu px py (less_is a.hi b.lo (sym e)) h.high k.low
+  by_less true e = apart units x.denominator y.denominator a.hi b.lo x.numerator y.numerator pu h.above_zero k.above_zero (less_is a.hi b.lo (sym e)) h.high k.low
   by_less false e = by_greater (int_lt b.hi a.lo) refl
 
 pub verdicts_are_true_lem : VerdictsAreTrue
-verdicts_are_true_lem units a b x y pu px py h k = by_less units a b x y pu px py h k (int_lt a.hi b.lo) refl
+verdicts_are_true_lem units a b x y pu h k = by_less units a b x y pu h k (int_lt a.hi b.lo) refl

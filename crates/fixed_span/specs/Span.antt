@@ -1,12 +1,12 @@
 -- Spans of whole numbers, and the fractions that they hold.
-use Rattle.std.specs.Prelude.{ℕ, ◌^◌, ℤ, pos, neg_ℤ, ◌+ℤ◌, ◌*ℤ◌, ◌≤ℤ◌}
+use Rattle.std.specs.Prelude.{ℕ, ◌^◌, ◌<◌, ℤ, pos, neg_ℤ, ◌+ℤ◌, ◌*ℤ◌, ◌≤ℤ◌}
 
 -- the two ends of a span, in units
 pub record Ends : Type 0 where
   pub lo : ℤ
   pub hi : ℤ
 
--- a fraction whose denominator is above 0
+-- a fraction
 pub record Fraction : Type 0 where
   pub numerator : ℤ
   pub denominator : ℕ
@@ -24,8 +24,9 @@ score_units = 1000000000000
 abbrev pub chance_units : ℕ
 chance_units = 1000000000
 
--- the span holds the fraction, in units of which so many make 1
+-- the span holds the fraction, in units of which so many make 1; the denominator is above 0
 pub record Holds (units : ℕ) (span : Ends) (x : Fraction) : Type 0 where
+  pub above_zero : 0 < x.denominator
   pub low : (span.lo *ℤ pos x.denominator) ≤ℤ (pos units *ℤ x.numerator)
   pub high : (pos units *ℤ x.numerator) ≤ℤ (span.hi *ℤ pos x.denominator)
 

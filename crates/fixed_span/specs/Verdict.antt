@@ -23,4 +23,4 @@ IsTrueOf Undecided x y = Unit {0}
 
 -- the verdict of two spans is true of any two numbers that they hold
 abbrev pub VerdictsAreTrue : Type 0
-VerdictsAreTrue = (units : ℕ) (a b : Ends) (x y : Fraction) → 0 < units → 0 < x.denominator → 0 < y.denominator → Holds units a x → Holds units b y → IsTrueOf (verdict a b) x y
+VerdictsAreTrue = (units : ℕ) (a b : Ends) (x y : Fraction) → 0 < units → Holds units a x → Holds units b y → IsTrueOf (verdict a b) x y

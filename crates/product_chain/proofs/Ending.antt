@@ -20,15 +20,15 @@ min_times a b y z (inr h) p q = let e : min a b ≡ b = omega arith in rw e q
 module _ (x err scale floor roof l h : ℕ) (span : Ends) (some : 1 ≤ scale) (l_low : l * scale ≤ x * score_units) (l_high : x * score_units < l * scale + scale)
     (h_low : (x + err) * score_units ≤ h * scale) (h_high : h * scale < (x + err) * score_units + scale)
     (lo : span.lo ≡ pos (max l floor)) (hi : span.hi ≡ pos (min h roof)) (ordered : max l floor ≤ min h roof) where
-  held : (e y : ℕ) → IsNear scale 0 err x e y → floor * y ≤ score_units * e → score_units * e ≤ roof * y → Holds score_units span (record { numerator = pos e; denominator = y })
-  held e y near under over =
+  held : (e y : ℕ) → 0 < y → IsNear scale 0 err x e y → floor * y ≤ score_units * e → score_units * e ≤ roof * y → Holds score_units span (record { numerator = pos e; denominator = y })
+  held e y some_y near under over =
       let a : l * y * scale ≤ score_units * e * scale = omega (arith, mul-le-mul_right y l_low, near.low) in
       let b : score_units * e * scale ≤ h * y * scale = omega (arith, mul-le-mul_right y h_low, near.high) in
       let a' : l * y ≤ score_units * e = le_of_mul-le-mul_right a some in
       let b' : score_units * e ≤ h * y = le_of_mul-le-mul_right b some in
       let low : max l floor * y ≤ score_units * e = max_times l floor y (score_units * e) (cases_lt l floor) a' under in
       let high : score_units * e ≤ min h roof * y = min_times h roof y (score_units * e) (cases_lt h roof) b' over in
-      record { low = rw lo (omega (arith, ints, low)); high = rw hi (omega (arith, ints, high)) }
+      record { above_zero = some_y; low = rw lo (omega (arith, ints, low)); high = rw hi (omega (arith, ints, high)) }
 
   thin : (m : ℕ) → err * score_units ≤ m * scale → IsWithin (m + 1) span
   thin m small =

@@ -102,7 +102,7 @@ pub score_from : (s : Side) (n : ℕ) (x : Estimate) (span : Ends) → IsSide s 
 score_from s n x span ok some right one ends =
     let inside = start_in s ok n in
     record {
-      holds = ends.holds (from_starts s n) (plays s n) right.near (omega (arith, inside.least)) (omega (arith, inside.most));
+      holds = ends.holds (from_starts s n) (plays s n) (plays_some s ok n) right.near (omega (arith, inside.least)) (omega (arith, inside.most));
       width = within_turns x.value x.err x.scale _ _ n span ends some right.narrow;
       narrow = λ m h. ends.narrow m (right.tight m h);
       payable = record { low = ends.low; high = ends.high };

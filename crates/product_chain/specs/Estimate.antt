@@ -54,7 +54,7 @@ pub record CanEnd (x err scale floor roof : ℕ) : Type 0 where
 
 -- the span of the value x / scale, where the exact value can be greater by err / scale
 pub record IsEnds (x err scale floor roof : ℕ) (span : Ends) : Type 0 where
-  pub holds : (e y : ℕ) → IsNear scale 0 err x e y → floor * y ≤ score_units * e → score_units * e ≤ roof * y → Holds score_units span (record { numerator = pos e; denominator = y })
+  pub holds : (e y : ℕ) → 0 < y → IsNear scale 0 err x e y → floor * y ≤ score_units * e → score_units * e ≤ roof * y → Holds score_units span (record { numerator = pos e; denominator = y })
   pub narrow : (m : ℕ) → err * score_units ≤ m * scale → IsWithin (m + 1) span
   pub low : pos floor ≤ℤ span.lo
   pub high : span.hi ≤ℤ pos roof

@@ -3,7 +3,7 @@ use Rattle.std.proofs.Common.{◌≡◌, ◌⊎◌, inl, inr, ℕ, zero, suc, �
 use Rattle.std.proofs.lemmas.Bool.Decides.{nat_tests}
 use Rattle.std.proofs.lemmas.Int.{ints}
 use Rattle.std.proofs.Math.IntN.{pos-*ℤ-pos}
-use Rattle.std.proofs.Math.Nat.{pow-suc}
+use Rattle.std.proofs.Math.Nat.{mul-pos, one-le-pow, pow-suc}
 use Rattle.history_model.specs.declared.moves.Move.{Move}
 use Rattle.history_model.specs.declared.moves.Move.TheVariants.{C, D}
 use Rattle.history_model.specs.declared.moves.Play.{Play}
@@ -127,26 +127,33 @@ points_expected weighed lowers agree paid a na b nb game n sides sure =
           ∙ ap (λ x. pos (x * quotient (player b) nb (player a) na ^ n)) (sym both.right);
     }
 
+-- the denominator of what two sides expect is above 0
+some_quotient : (a : Automaton) (na : FlipRate) (b : Automaton) (nb : FlipRate) (n : ℕ) → AreSides a na b nb → 0 < quotient (player a) na (player b) nb ^ n
+some_quotient a na b nb n sides =
+    one-le-pow n (quotient (player a) na (player b) nb)
+    (mul-pos (mul-pos (omega (arith, sides.left.some)) (omega (arith, sides.left_rate.some))) (mul-pos (omega (arith, sides.right.some)) (omega (arith, sides.right_rate.some))))
+
 -- a point holds the fraction that is as many whole points
-held_point : (units k q : ℕ) (x : Fraction) → x.numerator ≡ pos (k * q) → x.denominator ≡ q → Holds units (point (pos (k * units))) x
-held_point units k q x above below =
+held_point : (units k q : ℕ) (x : Fraction) → 0 < q → x.numerator ≡ pos (k * q) → x.denominator ≡ q → Holds units (point (pos (k * units))) x
+held_point units k q x some above below =
     let left : pos (k * units) *ℤ pos x.denominator ≡ pos (k * units * q) = ap (λ d. pos (k * units) *ℤ pos d) below ∙ pos-*ℤ-pos (k * units) q in
     let right : pos units *ℤ x.numerator ≡ pos (k * units * q) = ap (λ d. pos units *ℤ d) above ∙ pos-*ℤ-pos units (k * q) ∙ ap pos (omega arith) in
-    record { low = rw (left, right) (omega (arith, ints)); high = rw (left, right) (omega (arith, ints)) }
+    record { above_zero = rw below some; low = rw (left, right) (omega (arith, ints)); high = rw (left, right) (omega (arith, ints)) }
 
 -- the line of a sure match, and of any other
 pub held_by : (a : Automaton) (na : FlipRate) (b : Automaton) (nb : FlipRate) (game : Payoffs) (n : ℕ) (line : MatchLine) (tally : Option Tally)
-    → (IsSureMatch a na b nb → ArePointsExpected a na b nb game n) → IsScored a na b nb game n line tally → HoldsExpectations a na b nb game n line
-held_by a na b nb game n line None expected scored = record { left = scored.left.holds; right = scored.right.holds }
-held_by a na b nb game n line (Some tally) expected scored =
+    → AreSides a na b nb → (IsSureMatch a na b nb → ArePointsExpected a na b nb game n) → IsScored a na b nb game n line tally → HoldsExpectations a na b nb game n line
+held_by a na b nb game n line None sides expected scored = record { left = scored.left.holds; right = scored.right.holds }
+held_by a na b nb game n line (Some tally) sides expected scored =
     let are = expected scored.sure in
+    let others : AreSides b nb a na = record { left = sides.right; left_rate = sides.right_rate; right = sides.left; right_rate = sides.left_rate } in
     let left_points_are = ap (λ (t : Tally). pos (left_points game t * score_units)) scored.plays in
     let right_points_are = ap (λ (t : Tally). pos (right_points game t * score_units)) scored.plays in
     let P : Ends → Type 0 = λ s. Holds score_units s (expected_score (player a) na (player b) nb game 0 n) in
     let Q : Ends → Type 0 = λ s. Holds score_units s (expected_score (player b) nb (player a) na game 0 n) in
     record {
       left = subst P (sym (scored.left ∙ ap point left_points_are))
-          (held_point score_units (left_points game (counts (match_path a b n))) (quotient (player a) na (player b) nb ^ n) _ are.left refl);
+          (held_point score_units (left_points game (counts (match_path a b n))) (quotient (player a) na (player b) nb ^ n) _ (some_quotient a na b nb n sides) are.left refl);
       right = subst Q (sym (scored.right ∙ ap point right_points_are))
-          (held_point score_units (right_points game (counts (match_path a b n))) (quotient (player b) nb (player a) na ^ n) _ are.right refl);
+          (held_point score_units (right_points game (counts (match_path a b n))) (quotient (player b) nb (player a) na ^ n) _ (some_quotient b nb a na n others) are.right refl);
     }

@@ -96,6 +96,6 @@ pub lines_hold : AutomataAreWeighed → OffsetLowers → HistoriesAgreeWithRows 
 lines_hold weighed lowers agree paid = record {
   sure = points_expected weighed lowers agree paid;
   line = λ a na b nb game n line sides is.
-      held_by a na b nb game n line line.tally (λ sure. points_expected weighed lowers agree paid a na b nb game n sides sure) is;
+      held_by a na b nb game n line line.tally sides (λ sure. points_expected weighed lowers agree paid a na b nb game n sides sure) is;
   range = λ a na b nb game n line sides game_is turns is. range_by paid a na b nb game n line line.tally sides game_is turns refl is;
 }

@@ -6,11 +6,11 @@ use Rattle.std.proofs.lemmas.Int.{ints}
 use Rattle.std.proofs.lemmas.List.Sums.{sum_by-cons}
 use Rattle.fixed_span.specs.declared.ordering.Verdict.{Verdict}
 use Rattle.fixed_span.specs.declared.ordering.Verdict.TheVariants as verdicts
-use Rattle.fixed_span.specs.Span.{Ends, Fraction}
+use Rattle.fixed_span.specs.Span.{Ends, Fraction, Holds}
 use Rattle.fixed_span.specs.Verdict.{IsTrueOf, VerdictsAreTrue, verdict}
 use Rattle.round_robin.specs.declared.ranking.Rank.TheVariants.{At, Undecided}
 use Rattle.round_robin.specs.Ranks.{greater_among, is_greater, is_undecided, others, span_at, undecided_among}
-use Rattle.round_robin.specs.Truth.{HoldsFraction, RanksAreTrue, is_less, nothing}
+use Rattle.round_robin.specs.Truth.{RanksAreTrue, is_less, nothing}
 
 less_is : (a b : ℤ) → a <ℤ b → int_lt a b ≡ true
 less_is a b h = search (rules, ints)
@@ -43,13 +43,13 @@ same_test verdicts.Level x y known true_of =
     sym (let e : x.numerator *ℤ pos y.denominator ≡ y.numerator *ℤ pos x.denominator = sym true_of in rw e (not_itself (y.numerator *ℤ pos x.denominator)))
 same_test verdicts.Undecided x y known true_of = absurd (cc)
 
-module _ (law : VerdictsAreTrue) (units : ℕ) (some : 0 < units) (own : Ends) (x : Fraction) (held : HoldsFraction units own x) where
-  test_at : (span : Ends) (y : Fraction) → HoldsFraction units span y → is_undecided (verdict span own) ≡ false
+module _ (law : VerdictsAreTrue) (units : ℕ) (some : 0 < units) (own : Ends) (x : Fraction) (held : Holds units own x) where
+  test_at : (span : Ends) (y : Fraction) → Holds units span y → is_undecided (verdict span own) ≡ false
       → is_greater (verdict span own) ≡ is_less x y
-  test_at span y h known = same_test (verdict span own) x y known (law units span own y x some h.some held.some h.holds held.holds)
+  test_at span y h known = same_test (verdict span own) x y known (law units span own y x some h held)
 
   -- none of them is undecided with the own span
-  all_agree : (spans : List Ends) (ys : List Fraction) → AllZip (HoldsFraction units) spans ys → undecided_among spans own ≡ false
+  all_agree : (spans : List Ends) (ys : List Fraction) → AllZip (Holds units) spans ys → undecided_among spans own ≡ false
       → greater_among spans own ≡ count_by (λ y. is_less x y) ys
   all_agree [] [] h known = refl
   all_agree [] (y ∷ ys) h known = absurd h
@@ -59,7 +59,7 @@ module _ (law : VerdictsAreTrue) (units : ℕ) (some : 0 < units) (own : Ends) (
       count_alike (λ other. is_greater (verdict other own)) (λ z. is_less x z) s ss y ys (test_at s y h.0 split.0) (all_agree ss ys h.1 split.1)
 
   -- all but the one at a place, whose fraction isn't greater than x
-  but_one : (spans : List Ends) (ys : List Fraction) (i : ℕ) → i < length spans → AllZip (HoldsFraction units) spans ys
+  but_one : (spans : List Ends) (ys : List Fraction) (i : ℕ) → i < length spans → AllZip (Holds units) spans ys
       → is_less x (get_or ys i nothing) ≡ false → undecided_among (take i spans ++ drop (suc i) spans) own ≡ false
       → greater_among (take i spans ++ drop (suc i) spans) own ≡ count_by (λ y. is_less x y) ys
   but_one [] ys i inside h same known = absurd (omega (arith, inside))
@@ -74,8 +74,8 @@ module _ (law : VerdictsAreTrue) (units : ℕ) (some : 0 < units) (own : Ends) (
       (but_one ss ys i (omega (arith, inside)) h.1 same split.1)
 
 -- the fraction that the span at a place holds
-held_at : (units : ℕ) (spans : List Ends) (ys : List Fraction) (i : ℕ) → i < length spans → AllZip (HoldsFraction units) spans ys
-    → HoldsFraction units (span_at spans i) (get_or ys i nothing)
+held_at : (units : ℕ) (spans : List Ends) (ys : List Fraction) (i : ℕ) → i < length spans → AllZip (Holds units) spans ys
+    → Holds units (span_at spans i) (get_or ys i nothing)
 held_at units [] ys i inside h = absurd (omega (arith, inside))
 held_at units (s ∷ ss) [] i inside h = absurd h
 held_at units (s ∷ ss) (y ∷ ys) zero inside h = h.0
@@ -97,7 +97,7 @@ ranks_are law units spans totals i k some inside held ranked =
     ap (λ n. 1 + n) (sym counted ∙ ap (λ ss. greater_among ss own) (sym same)) ∙ known.1
 
 -- spans and fractions that are made of the same places
-pub held_places : (units : ℕ) (f : ℕ → Ends) (g : ℕ → Fraction) → ((i : ℕ) → HoldsFraction units (f i) (g i)) → (places : List ℕ)
-    → AllZip (HoldsFraction units) (map f places) (map g places)
+pub held_places : (units : ℕ) (f : ℕ → Ends) (g : ℕ → Fraction) → ((i : ℕ) → Holds units (f i) (g i)) → (places : List ℕ)
+    → AllZip (Holds units) (map f places) (map g places)
 held_places units f g h [] = tt
 held_places units f g h (i ∷ is) = (h i, held_places units f g h is)

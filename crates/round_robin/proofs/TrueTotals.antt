@@ -1,19 +1,18 @@
 -- Totals hold the true totals.
-use Rattle.std.proofs.Common.{◌≡◌, ℕ, ◌*◌, ◌^◌, ◌<◌, ◌==◌, Bool, true, false, if◌then◌else◌, List, [], ◌∷◌, get_or, ℤ, pos, ◌*ℤ◌, refl, ◌∙◌, ap, subst, arith}
+use Rattle.std.proofs.Common.{◌≡◌, ℕ, ◌*◌, ◌==◌, Bool, true, false, if◌then◌else◌, List, [], ◌∷◌, get_or, ℤ, pos, ◌*ℤ◌, refl, ◌∙◌, ap, subst, arith}
 use Rattle.std.specs.List.{All}
 use Rattle.std.proofs.lemmas.Int.{ints}
 use Rattle.std.proofs.lemmas.Bool.Decides.{nat_tests}
 use Rattle.std.proofs.lemmas.List.Elements.{All-head, All-tail}
-use Rattle.std.proofs.Math.Nat.{mul-pos, one-le-pow}
-use Rattle.history_model.specs.Expectation.{player, quotient}
+use Rattle.std.proofs.Math.Nat.{mul-pos}
 use Rattle.history_model.specs.Game.{Payoffs}
 use Rattle.fixed_span.specs.Span.{Ends, Fraction, Holds, add, point, score_units}
 use Rattle.fixed_span.proofs.Signed.{*ℤ-+ℤ, +ℤ-*ℤ, *ℤ_assoc, *ℤ-le}
 use Rattle.match_play.specs.declared.line.MatchLine.{MatchLine}
 use Rattle.round_robin.specs.Contest.{Strategy, strategy_at}
-use Rattle.round_robin.specs.Laws.{AreSides, LinesHold}
+use Rattle.round_robin.specs.Laws.{LinesHold}
 use Rattle.round_robin.specs.Totals.{AreLines, own_score, pairs_of, total_of}
-use Rattle.round_robin.specs.Truth.{HoldsFraction, HoldsExpected, TotalsHoldTrueTotals, expects_of, nothing, own_expected, plus, true_total}
+use Rattle.round_robin.specs.Truth.{HoldsExpected, TotalsHoldTrueTotals, expects_of, nothing, own_expected, plus, true_total}
 
 -- ---- sums
 
@@ -32,6 +31,7 @@ plus_holds units s t x y h k =
     let first = *ℤ_assoc (pos units) x.numerator (pos q) in
     let second = *ℤ_assoc (pos units) y.numerator (pos p) in
     record {
+      above_zero = mul-pos h.above_zero k.above_zero;
       low = omega (
         arith,
         ints,
@@ -58,50 +58,38 @@ plus_holds units s t x y h k =
       );
     }
 
-holds_nothing : (units : ℕ) → HoldsFraction units (point (pos 0)) nothing
-holds_nothing units = record { holds = record { low = omega (arith, ints); high = omega (arith, ints) }; some = omega arith }
+holds_nothing : (units : ℕ) → Holds units (point (pos 0)) nothing
+holds_nothing units = record { above_zero = omega arith; low = omega (arith, ints); high = omega (arith, ints) }
 
 module _ (expects : ℕ → ℕ → Fraction) (i : ℕ) where
   own_by : (left right : Bool) (line : MatchLine) → (left ≡ true → line.left ≡ i) → (right ≡ true → line.right ≡ i) → HoldsExpected expects line
-      → HoldsFraction score_units (if left then line.left_score else if right then line.right_score else point (pos 0))
+      → Holds score_units (if left then line.left_score else if right then line.right_score else point (pos 0))
       (if left then expects i line.right else if right then expects i line.left else nothing)
   own_by true right line here there h =
-      let P : ℕ → Type 0 = λ j. HoldsFraction score_units line.left_score (expects j line.right) in subst P (here refl) h.left
+      let P : ℕ → Type 0 = λ j. Holds score_units line.left_score (expects j line.right) in subst P (here refl) h.left
   own_by false true line here there h =
-      let P : ℕ → Type 0 = λ j. HoldsFraction score_units line.right_score (expects j line.left) in subst P (there refl) h.right
+      let P : ℕ → Type 0 = λ j. Holds score_units line.right_score (expects j line.left) in subst P (there refl) h.right
   own_by false false line here there h = holds_nothing score_units
 
   is_place : (n : ℕ) → (n == i) ≡ true → n ≡ i
   is_place n h = grind (arith, nat_tests)
 
   own_holds : (line : MatchLine) → HoldsExpected expects line
-      → HoldsFraction score_units (own_score i line) (own_expected expects i (line.left, line.right))
+      → Holds score_units (own_score i line) (own_expected expects i (line.left, line.right))
   own_holds line h = own_by (line.left == i) (line.right == i) line (is_place line.left) (is_place line.right) h
 
   pub total_holds : (lines : List MatchLine) → All (HoldsExpected expects) lines
-      → HoldsFraction score_units (total_of i lines) (true_total expects (pairs_of lines) i)
+      → Holds score_units (total_of i lines) (true_total expects (pairs_of lines) i)
   total_holds [] h = holds_nothing score_units
   total_holds (line ∷ lines) h =
       let own = own_holds line (All-head (HoldsExpected expects) line lines h) in
       let rest = total_holds lines (All-tail (HoldsExpected expects) line lines h) in
-      record {
-        holds = plus_holds score_units (own_score i line) (total_of i lines) (own_expected expects i (line.left, line.right)) (true_total expects (pairs_of lines) i) own.holds rest.holds;
-        some = mul-pos own.some rest.some;
-      }
+      plus_holds score_units (own_score i line) (total_of i lines) (own_expected expects i (line.left, line.right)) (true_total expects (pairs_of lines) i) own rest
 
 pub totals_hold : TotalsHoldTrueTotals
 totals_hold expects lines i h = total_holds expects i lines h
 
 -- ---- the lines of strategies
-
-some_quotient : (a b : Strategy) (n : ℕ) → AreSides a.automaton a.noise b.automaton b.noise
-    → 0 < quotient (player a.automaton) a.noise (player b.automaton) b.noise ^ n
-some_quotient a b n sides =
-    one-le-pow n (quotient (player a.automaton) a.noise (player b.automaton) b.noise)
-    (mul-pos (mul-pos (omega (arith, sides.left.some)) (omega (arith, sides.left_rate.some))) (mul-pos (omega (arith, sides.right.some)) (omega (arith, sides.right_rate.some))))
-
-turned_sides : (a b : Strategy) → AreSides a.automaton a.noise b.automaton b.noise → AreSides b.automaton b.noise a.automaton a.noise
-turned_sides a b sides = record { left = sides.right; left_rate = sides.right_rate; right = sides.left; right_rate = sides.left_rate }
 
 -- each line tells that its sides are valid
 pub lines_expected : LinesHold → (strategies : List Strategy) (game : Payoffs) (n : ℕ) (pairs : List (ℕ × ℕ)) (lines : List MatchLine)
@@ -112,7 +100,4 @@ lines_expected law strategies game n pairs lines made k d inside =
     let b = strategy_at strategies line.right in
     let here = made.each k d inside in
     let holds = law.line a.automaton a.noise b.automaton b.noise game n line here.sides here.is in
-    record {
-      left = record { holds = holds.left; some = some_quotient a b n here.sides };
-      right = record { holds = holds.right; some = some_quotient b a n (turned_sides a b here.sides) };
-    }
+    record { left = holds.left; right = holds.right }

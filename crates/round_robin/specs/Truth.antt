@@ -24,11 +24,6 @@ plus a b = over (a.numerator *ℤ pos b.denominator +ℤ b.numerator *ℤ pos a.
 abbrev pub is_less : Fraction → Fraction → Bool
 is_less a b = int_lt (a.numerator *ℤ pos b.denominator) (b.numerator *ℤ pos a.denominator)
 
--- the span holds the fraction, whose denominator is above 0
-pub record HoldsFraction (units : ℕ) (span : Ends) (x : Fraction) : Type 0 where
-  pub holds : Holds units span x
-  pub some : 0 < x.denominator
-
 -- the law: the sum of two spans holds the sum of what they hold
 abbrev pub SumsAreHeld : Type 0
 SumsAreHeld =
@@ -65,24 +60,24 @@ expects_of strategies game n i j =
 
 -- both spans of a match hold what its entries expect
 pub record HoldsExpected (expects : ℕ → ℕ → Fraction) (line : MatchLine) : Type 0 where
-  pub left : HoldsFraction score_units line.left_score (expects line.left line.right)
-  pub right : HoldsFraction score_units line.right_score (expects line.right line.left)
+  pub left : Holds score_units line.left_score (expects line.left line.right)
+  pub right : Holds score_units line.right_score (expects line.right line.left)
 
 -- the law: totals of such matches hold the true totals
 abbrev pub TotalsHoldTrueTotals : Type 0
 TotalsHoldTrueTotals =
     (expects : ℕ → ℕ → Fraction) (lines : List MatchLine) (i : ℕ) → All (HoldsExpected expects) lines →
-    HoldsFraction score_units (total_of i lines) (true_total expects (pairs_of lines) i)
+    Holds score_units (total_of i lines) (true_total expects (pairs_of lines) i)
 
 -- the law: a rank that isn't undecided is the true rank of the fractions that the spans hold
 abbrev pub RanksAreTrue : Type 0
 RanksAreTrue =
     (units : ℕ) (spans : List Ends) (totals : List Fraction) (i k : ℕ) → 0 < units → i < length spans →
-    AllZip (HoldsFraction units) spans totals → rank_of spans i ≡ At k → true_rank totals i ≡ k
+    AllZip (Holds units) spans totals → rank_of spans i ≡ At k → true_rank totals i ≡ k
 
 -- the totals and ranks of a tournament are true
 pub record IsTrueTournament (strategies : List Strategy) (game : Payoffs) (n : ℕ) (pairs : List (ℕ × ℕ)) (lines : List MatchLine) : Type 0 where
-  pub totals : (i : ℕ) → HoldsFraction score_units (total_of i lines) (true_total (expects_of strategies game n) pairs i)
+  pub totals : (i : ℕ) → Holds score_units (total_of i lines) (true_total (expects_of strategies game n) pairs i)
   pub ranks : (i k : ℕ) → i < length strategies → rank_of (totals_of (length strategies) lines) i ≡ At k
       → true_rank (true_totals (expects_of strategies game n) pairs (length strategies)) i ≡ k
 

@@ -1,4 +1,4 @@
-use Rattle.std.proofs.Common.{rules, ◌≡◌, length, subst}
+use Rattle.std.proofs.Common.{arith, rules, ◌≡◌, length, subst}
 use Rattle.fixed_span.specs.Mix.{IsFloor, IsCeiling, weighted, lows, highs}
 use Rattle.fixed_span.proofs.Means.{low_sum_is, high_sum_is, mix_holds, mix_width}
 use Rattle.fixed_span.proofs.mixing.mix.Goals as goal
@@ -25,7 +25,8 @@ returns-clause-hi c = ceiling_is (goal.at.returns-clause-hi c).After-mix_four
 pub returns-clause-contains : goal.returns-clause-contains
 returns-clause-contains c =
     let a = (goal.at.returns-clause-contains c).After-mix_four in
-    λ units xs d held. mix_holds units c.args.weights c.args.spans xs d c.args.q c.mix_four.result (floor_is a) (ceiling_is a) held
+    let ss : length c.args.spans ≡ 4 = search rules in
+    λ units xs d held. mix_holds units c.args.weights c.args.spans xs d c.args.q c.mix_four.result c.requires.positive (omega (arith, ss)) (floor_is a) (ceiling_is a) held
 
 pub returns-clause-width : goal.returns-clause-width
 returns-clause-width c =
