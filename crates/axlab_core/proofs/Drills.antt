@@ -170,7 +170,7 @@ module _ (lines_hold : LinesHold) (players : List Lasting) (sheets : List SheetD
         = get_or-map-range_with_len (true_total expects drill_pairs) 0 64 i i nothing inside (omega arith) in
         let Q : Fraction → Type 0 = λ x. IsWhole (total_of i lines).lo x in
         let P : List Fraction → Type 0 = λ totals. IsWhole (total_of i lines).lo (get_or totals i nothing) in
-        subst P totals_there (subst Q (sym at) (whole_of (total_of i lines) _ (total_point i) (truth.totals i).holds))
+        subst P totals_there (subst Q (sym at) (whole_of (total_of i lines) _ (total_point i) (truth.totals i)))
 
     module _ (entries : List EntryLine) (are_entries : entries ≡ entries_of 64 lines) where
       line_there : (i : ℕ) → i < 64 → line_at entries i ≡ entry_of 64 lines i
@@ -212,11 +212,11 @@ module _ (lines_hold : LinesHold) (players : List Lasting) (sheets : List SheetD
           (totals_from (first_places (machine_totals players sheets)) (All-filter (λ place. true_rank (machine_totals players sheets) place == 1) (λ place. place < 64) (range_with_len 0 64) (all_below 64)))
 
       sums_from : SumsAreHeld → (places : List ℕ) → IsWhole (sum_of_totals (map (entry_of 64 lines) places)) (sum_of (map (true_total (expects_of (machine_strategies players sheets) drill_game drill_job.turns) drill_pairs) places))
-      sums_from held [] = record { low = omega (arith, ints); high = omega (arith, ints) }
+      sums_from held [] = record { above_zero = omega arith; low = omega (arith, ints); high = omega (arith, ints) }
       sums_from held (place ∷ places) =
           let expects = expects_of (machine_strategies players sheets) drill_game drill_job.turns in
           held score_units (point (total_of place lines).lo) (point (sum_of_totals (map (entry_of 64 lines) places))) (true_total expects drill_pairs place) (sum_of (map (true_total expects drill_pairs) places))
-          (whole_of (total_of place lines) _ (total_point place) (truth.totals place).holds) (sums_from held places)
+          (whole_of (total_of place lines) _ (total_point place) (truth.totals place)) (sums_from held places)
 
       -- and the sum is that of all true totals
       pub sum_is : SumsAreHeld → IsWhole (sum_of_totals entries) (sum_of (machine_totals players sheets))

@@ -177,7 +177,7 @@ module _ (vectors : FollowsRule MemoryOne) (machines : FollowsRule Machine) (tab
         let R : ℕ → Type 0 = λ n. (k : ℕ) → rank_of (totals_of n results.matches) place ≡ At k → true_rank (true_totals expects pairs n) place ≡ k in
         let ranks : R count = subst R many_strategies (λ k ranked. truth.ranks place k (omega (arith, inside, many_strategies)) ranked) in
         let here : P (entry_of count results.matches place) (true_totals expects pairs count) = record {
-          total = subst Q (sym at) (truth.totals place).holds;
+          total = subst Q (sym at) (truth.totals place);
           rank = ranks;
         } in
         subst (λ totals. P (get_or results.entries place none) totals) totals_there

@@ -13,7 +13,7 @@ pub record IsCeiling (x : ℤ) (q : ℕ) (r : ℤ) : Type 0 where
   pub below : (r *ℤ pos q) <ℤ (x +ℤ pos q)
 
 -- both ends lie between -10^24 and 10^24
-pub record IsNear (span : Ends) : Type 0 where
+pub record CanBeMixed (span : Ends) : Type 0 where
   pub low : neg_ℤ (pos (10 ^ 24)) ≤ℤ span.lo
   pub high : span.hi ≤ℤ pos (10 ^ 24)
 

@@ -1,7 +1,7 @@
 //! Weighted means of spans, rounded outward.
 ghost use Rattle.std.specs.Prelude.{◌≡◌, ℕ, ◌+◌, ◌*◌, ◌/◌, ◌^◌, ◌<◌, ◌≤◌, ℤ, pos, neg_ℤ, ◌+ℤ◌, ◌*ℤ◌, ◌≤ℤ◌, List, All, sum};
 ghost use Rattle.fixed_span.specs.Span.{over, Holds, IsWithin};
-ghost use Rattle.fixed_span.specs.Mix.{IsFloor, IsCeiling, IsNear, weighted, lows, highs, AllHold, sum_of_four};
+ghost use Rattle.fixed_span.specs.Mix.{IsFloor, IsCeiling, CanBeMixed, weighted, lows, highs, AllHold, sum_of_four};
 
 use crate::Span;
 
@@ -26,7 +26,7 @@ fn lowered(x: u128) -> i128
 
 // The lower end, raised, and how much higher the upper end is.
 fn parts(span: Span) -> (u128, u128)
-    requires { IsNear span }
+    requires { CanBeMixed span }
     ensures low { pos result.0 ≡ span.lo +ℤ pos (10 ^ 24) }
     ensures high { pos (result.0 + result.1) ≡ span.hi +ℤ pos (10 ^ 24) }
     ensures low_bound { result.0 ≤ 2 * 10 ^ 24 }
@@ -110,10 +110,10 @@ fn mix_four(w0: u64, w1: u64, w2: u64, w3: u64, a: Span, b: Span, c: Span, d: Sp
     requires positive { 0 < q }
     requires small { q ≤ 10 ^ 12 }
     requires total { w0 + w1 + w2 + w3 ≡ q }
-    requires a { IsNear a }
-    requires b { IsNear b }
-    requires c { IsNear c }
-    requires d { IsNear d }
+    requires a { CanBeMixed a }
+    requires b { CanBeMixed b }
+    requires c { CanBeMixed c }
+    requires d { CanBeMixed d }
     ensures lo { IsFloor (sum_of_four w0 w1 w2 w3 a.lo b.lo c.lo d.lo) q result.lo }
     ensures hi { IsCeiling (sum_of_four w0 w1 w2 w3 a.hi b.hi c.hi d.hi) q result.hi }
 {
@@ -133,7 +133,7 @@ pub fn mix(weights: [u64; 4], spans: [Span; 4], q: u64) -> Span
     requires positive { 1 ≤ q }
     requires small { q ≤ 10 ^ 12 }
     requires total { sum weights ≡ q }
-    requires ends { All IsNear spans }
+    requires ends { All CanBeMixed spans }
     ensures lo { IsFloor (weighted weights (lows spans)) q result.lo }
     ensures hi { IsCeiling (weighted weights (highs spans)) q result.hi }
     ensures contains { (units : ℕ) (xs : List ℤ) (denominator : ℕ) → AllHold units spans xs denominator → Holds units result (over (weighted weights xs) (q * denominator)) }

@@ -19,8 +19,8 @@ abbrev pub one_play : Match → ℕ
 one_play m = quotient (player m.a.now) m.a_noise.now (player m.b.now) m.b_noise.now
 
 -- the power of it and the greatest sum over n plays are far from 2 ^ 128
-abbrev pub HasRoom : Match → ℕ → Type 0
-HasRoom m n = one_play m ^ n * (n + 1) * 1000000 < 2 ^ 126
+abbrev pub SumsFit : Match → ℕ → Type 0
+SumsFit m n = one_play m ^ n * (n + 1) * 1000000 < 2 ^ 126
 
 -- what a expects in n turns from a pair of rows
 abbrev pub from_rows : Match → ℕ → ℕ → ℕ → ℕ

@@ -4,7 +4,7 @@ ghost use Rattle.history_model.specs.Automaton.{IsAutomaton};
 ghost use Rattle.history_model.specs.Expectation.{expectation, player, quotient, shown};
 ghost use Rattle.history_model.specs.Game.{pay, IsGame};
 ghost use Rattle.history_model.specs.Noise.{IsFlipRate};
-ghost use Rattle.history_model.specs.Whole.{from_play, from_rows, one_play, AreSides, HasRoom};
+ghost use Rattle.history_model.specs.Whole.{from_play, from_rows, one_play, AreSides, SumsFit};
 
 use crate::{Game, Grid, Move, Noise};
 
@@ -67,7 +67,7 @@ struct Match<'a> {
 
 // What `a` expects in `n` turns from the starts.
 fn expected(seen: &Match, n: u32) -> i128
-    requires { HasRoom seen.now n }
+    requires { SumsFit seen.now n }
     ensures { result ≡ pos (from_rows seen.now n seen.now.a.now.start seen.now.b.now.start) }
 {
     expected_from(seen, n, seen.a.start(), seen.b.start()) as i128
@@ -78,7 +78,7 @@ fn expected(seen: &Match, n: u32) -> i128
 fn expected_from(seen: &Match, n: u32, u: u32, v: u32) -> u128
     requires u { u < length seen.now.a.now.rows }
     requires v { v < length seen.now.b.now.rows }
-    requires room { HasRoom seen.now n }
+    requires room { SumsFit seen.now n }
     ensures most { result ≤ n * 1000000 * one_play seen.now ^ n }
     ensures value { result ≡ from_rows seen.now n u v }
 {
@@ -96,7 +96,7 @@ fn expected_from(seen: &Match, n: u32, u: u32, v: u32) -> u128
 fn expected_with(seen: &Match, rest: u32, u: u32, v: u32, mine: Move, theirs: Move) -> u128
     requires u { u < length seen.now.a.now.rows }
     requires v { v < length seen.now.b.now.rows }
-    requires room { HasRoom seen.now (rest + 1) }
+    requires room { SumsFit seen.now (rest + 1) }
     ensures few { result < 2 ^ 126 }
     ensures value { result ≡ from_play seen.now rest u v mine theirs }
     ensures sides { AreSides seen.now }
@@ -117,7 +117,7 @@ fn expected_with(seen: &Match, rest: u32, u: u32, v: u32, mine: Move, theirs: Mo
 
 // The denominator of `rest` plays.
 fn over_rest(seen: &Match, rest: u32) -> u128
-    requires { HasRoom seen.now (rest + 1) }
+    requires { SumsFit seen.now (rest + 1) }
     ensures value { result ≡ one_play seen.now ^ rest }
     ensures some { 1 ≤ one_play seen.now }
     ensures sides { AreSides seen.now }

@@ -1,7 +1,7 @@
 //! The player of lookup tables.
 ghost use Rattle.std.specs.Prelude.{◌≡◌, IfOk};
 ghost use Rattle.history_model.specs.Automaton.{plain_row, row_at};
-ghost use Rattle.player_core.specs.Holder.{fresh};
+ghost use Rattle.player_core.specs.Holder.{without_sheet};
 ghost use Rattle.player_core.specs.State.{IsState};
 
 use crate::rows::{ROOM, write_rows};
@@ -41,7 +41,7 @@ impl LookupPlayer {
     /// A player that has taken no sheet yet, and always plays C. It was never advanced or resumed.
     /// The error is want of room for 512 rows.
     pub fn new(alloc: Global) -> Result<LookupPlayer, NoMemory>
-        ensures { IfOk result (λ player. player ≡ fresh Kind.Lookup) }
+        ensures { IfOk result (λ player. player ≡ without_sheet Kind.Lookup) }
     {
         rows_are_held();
         let cooperate = GridRow {

@@ -2,7 +2,7 @@
 ghost use Rattle.std.specs.Prelude.{◌≡◌, ◌<◌, ◌≤◌, ◌*◌, IfOk, length, map, take};
 ghost use Rattle.history_model.specs.Automaton.{IsAutomaton, plain_row, row_at};
 ghost use Rattle.player_core.specs.AutomatonOf.{entered, machine_automaton, machine_place, machine_row};
-ghost use Rattle.player_core.specs.Holder.{fresh};
+ghost use Rattle.player_core.specs.Holder.{without_sheet};
 ghost use Rattle.player_core.specs.Sheet.{IsMachine, states};
 ghost use Rattle.player_core.specs.State.{IsState};
 
@@ -104,7 +104,7 @@ impl MachinePlayer {
     /// A player that has taken no sheet yet, and always plays C. It was never advanced or resumed.
     /// The error is want of room for 512 rows.
     pub fn new(alloc: Global) -> Result<MachinePlayer, NoMemory>
-        ensures { IfOk result (λ player. player ≡ fresh Kind.Machine) }
+        ensures { IfOk result (λ player. player ≡ without_sheet Kind.Machine) }
     {
         rows_are_held();
         let cooperate = GridRow {

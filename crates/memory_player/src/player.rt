@@ -2,7 +2,7 @@
 ghost use Rattle.std.specs.Prelude.{◌≡◌, ◌<◌, IfOk, length, map, take};
 ghost use Rattle.history_model.specs.Automaton.{IsAutomaton, plain_row, row_at};
 ghost use Rattle.player_core.specs.AutomatonOf.{vector_automaton};
-ghost use Rattle.player_core.specs.Holder.{fresh};
+ghost use Rattle.player_core.specs.Holder.{without_sheet};
 ghost use Rattle.player_core.specs.State.{IsState};
 
 use history_model::{GridRow, Move, Name, NoMemory};
@@ -79,7 +79,7 @@ impl MemoryPlayer {
     /// A player that has taken no sheet yet, and always plays C. It was never advanced or resumed.
     /// The error is want of room for 512 rows.
     pub fn new(alloc: Global) -> Result<MemoryPlayer, NoMemory>
-        ensures { IfOk result (λ player. player ≡ fresh Kind.MemoryOne) }
+        ensures { IfOk result (λ player. player ≡ without_sheet Kind.MemoryOne) }
     {
         rows_are_held();
         let cooperate = GridRow {

@@ -29,8 +29,8 @@ abbrev pub cooperate : GridRow
 cooperate = record { weight = 1; next = 0 ∷ 0 ∷ 0 ∷ 0 ∷ [] }
 
 -- a player of a kind that has taken no sheet yet
-abbrev pub fresh : Kind → PlayerState
-fresh kind = unnamed kind cooperator 0 0 0
+abbrev pub without_sheet : Kind → PlayerState
+without_sheet kind = unnamed kind cooperator 0 0 0
 
 -- the laws of a table: rows are written over its first one by one, and a table that is made of one row holds a new player
 pub record RowsAreHeld : Type 0 where

@@ -50,8 +50,8 @@ builtin_state which mark turns returns =
     }
 
 -- at its start, and never yet advanced or resumed
-abbrev pub fresh : Builtin → PlayerState
-fresh which = builtin_state which 0 0 0
+abbrev pub builtin_at_start : Builtin → PlayerState
+builtin_at_start which = builtin_state which 0 0 0
 
 abbrev pub opposite : Move → Move
 opposite C = D

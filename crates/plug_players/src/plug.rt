@@ -1,7 +1,7 @@
 //! The built-in strategies as players.
 ghost use Rattle.std.specs.Prelude.{◌≡◌, ◌<◌, length};
 ghost use Rattle.history_model.specs.Automaton.{IsSure, plain_row, row_at};
-ghost use Rattle.plug_players.specs.Builtin.{builtin_automaton, fresh};
+ghost use Rattle.plug_players.specs.Builtin.{builtin_automaton, builtin_at_start};
 
 use crate::Builtin;
 use history_model::{GridRow, Move, Name};
@@ -40,7 +40,7 @@ fn row_of(which: Builtin, mark: u32) -> GridRow
 impl PlugPlayer {
     /// The player at its start, with both counts at 0. Takes no memory.
     pub fn new(which: Builtin) -> PlugPlayer
-        ensures fresh { result ≡ fresh which }
+        ensures start { result ≡ builtin_at_start which }
         ensures sure { IsSure result.lasting.automaton }
     {
         PlugPlayer {

@@ -10,7 +10,7 @@ use Rattle.product_chain.specs.declared.course.Fork.{Fork}
 use Rattle.product_chain.specs.Layer.{Grain, IsSide, IsCell, IsRow, own_rows, other_rows, own_weight, other_weight, plays, expected, paid, moved}
 use Rattle.product_chain.specs.Course.{IsFork, AreAnswers}
 use Rattle.product_chain.specs.Scale.{IsScale, top}
-use Rattle.product_chain.specs.Slim.{IsPart, AreParts, IsMix, IsMoved, IsMovedRow, AreMovedTo, AreDrawn, AreMixed, HasRoom, slim_grain}
+use Rattle.product_chain.specs.Slim.{IsPart, AreParts, IsMix, IsMoved, IsMovedRow, AreMovedTo, AreDrawn, AreMixed, CellsHaveRoom, slim_grain}
 use Rattle.product_chain.proofs.Weighing.{shown_sum}
 use Rattle.product_chain.proofs.Mixing.{mix_small, mix_near}
 use Rattle.product_chain.proofs.Steps.{expected_by_forks, plays_step, paid_near, gain_fits, near_as}
@@ -22,13 +22,13 @@ module _ (s : Side) (ok : IsSide s) (scale n turns : ℕ) (later : n < turns) (s
   pub room : (gain x : ℕ) → gain ≤ unit → x ≤ n * unit → gain + x < 2 ^ 63
   room gain x h k = omega (arith, gain_fits n turns (2 ^ 63 - 1) unit gain x later scaled.fits h k)
 
-  pub row_room : (gain u : ℕ) (cells : List ℕ) → gain ≤ unit → IsRow s (slim_grain s scale) n u cells → HasRoom gain cells
+  pub row_room : (gain u : ℕ) (cells : List ℕ) → gain ≤ unit → IsRow s (slim_grain s scale) n u cells → CellsHaveRoom gain cells
   row_room gain u cells h row v hv = room gain (slice_index cells v) h (row.each v (omega (arith, row.size, hv))).small
 
   pub moved_room : (x : ℕ) → x ≤ (n + 1) * unit → x < 2 ^ 63
   moved_room x h = omega (arith, h, scaled.fits, mul-le-mul_right unit (let k : n + 1 ≤ turns = omega (arith, later) in k))
 
-  pub moved_row_room : (mine : Move) (fork : Fork) (cells : List ℕ) → IsMovedRow s (slim_grain s scale) n mine fork cells → HasRoom 0 cells
+  pub moved_row_room : (mine : Move) (fork : Fork) (cells : List ℕ) → IsMovedRow s (slim_grain s scale) n mine fork cells → CellsHaveRoom 0 cells
   moved_row_room mine fork cells row v hv = omega (arith, moved_room (slice_index cells v) (row.each v (omega (arith, row.size, hv))).small)
 
   -- the other's move is drawn

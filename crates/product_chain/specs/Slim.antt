@@ -56,8 +56,8 @@ pub record IsSlimPlan (plan : SlimPlan) : Type 0 where
   pub after_d : IsCourse plan.side.now D plan.after_d
 
 -- a gain more fits beside each cell
-abbrev pub HasRoom : ℕ → List ℕ → Type 0
-HasRoom gain cells = (v : ℕ) → v < length cells → gain + slice_index cells v < 2 ^ 63
+abbrev pub CellsHaveRoom : ℕ → List ℕ → Type 0
+CellsHaveRoom gain cells = (v : ℕ) → v < length cells → gain + slice_index cells v < 2 ^ 63
 
 -- each part is less than a whole
 abbrev pub AreLess : List ℕ → Type 0

@@ -6,7 +6,7 @@ ghost use Rattle.history_model.specs.Expectation.{shown};
 ghost use Rattle.product_chain.specs.Course.{AreInside, AreRowWeights, IsCourse};
 ghost use Rattle.product_chain.specs.Layer.{IsCell, AreNone, IsLayer, IsSide, IsTable, own_rows, other_rows};
 ghost use Rattle.product_chain.specs.Scale.{IsScale};
-ghost use Rattle.product_chain.specs.Slim.{AreDrawn, AreLess, AreMixed, HasRoom, AreMovedTo, AreParts, IsMix, IsPart, IsSlimPlan, slim_grain};
+ghost use Rattle.product_chain.specs.Slim.{AreDrawn, AreLess, AreMixed, CellsHaveRoom, AreMovedTo, AreParts, IsMix, IsPart, IsSlimPlan, slim_grain};
 
 use crate::course::{Course, Fork, course_of, shown_weights};
 use crate::divide::upper;
@@ -59,8 +59,8 @@ fn fill_moved_row(
     requires less { AreLess parts.now }
     requires inside_c { AreInside (length after_c.now) answers.now }
     requires inside_d { AreInside (length after_d.now) answers.now }
-    requires room_c { HasRoom gain_c after_c.now }
-    requires room_d { HasRoom gain_d after_d.now }
+    requires room_c { CellsHaveRoom gain_c after_c.now }
+    requires room_d { CellsHaveRoom gain_d after_d.now }
     ensures { AreDrawn parts.now answers.now gain_c after_c.now gain_d after_d.now (length cells.old) cells.new }
 {
     for v in 0..cells.len() {
@@ -76,8 +76,8 @@ fn fill_row(cells: &mut [u64], part: u64, if_c: &[u64], if_d: &[u64])
     requires part { part < 2 ^ 63 }
     requires c_size { length if_c.now ≡ length cells.old }
     requires d_size { length if_d.now ≡ length cells.old }
-    requires room_c { HasRoom 0 if_c.now }
-    requires room_d { HasRoom 0 if_d.now }
+    requires room_c { CellsHaveRoom 0 if_c.now }
+    requires room_d { CellsHaveRoom 0 if_d.now }
     ensures { AreMixed part if_c.now if_d.now (length cells.old) cells.new }
 {
     for v in 0..cells.len() {
