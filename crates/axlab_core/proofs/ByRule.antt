@@ -13,7 +13,7 @@ use Rattle.player_core.specs.Sheet.{SheetData, IsSheet}
 use Rattle.player_core.specs.Fits.{SidesFit}
 use Rattle.player_core.specs.Entry.{entry_automaton, plug_automaton}
 use Rattle.player_core.specs.Rule.{own_rule, rule, FollowsRule}
-use Rattle.match_play.specs.declared.line.MatchLine.{MatchLine}
+use Rattle.result_lines.specs.declared.line.MatchLine.{MatchLine}
 use Rattle.product_chain.specs.Expected.{expected_score}
 use Rattle.round_robin.specs.Laws.{AreSides}
 use Rattle.round_robin.specs.Line.{IsLineOf, IsScored}

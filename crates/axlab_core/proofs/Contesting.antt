@@ -12,7 +12,7 @@ use Rattle.player_core.specs.Fits.{SidesFit}
 use Rattle.player_core.specs.Bench.{notes_of}
 use Rattle.round_robin.specs.declared.contestant.Contestant.{Contestant}
 use Rattle.history_model.specs.Game.{Payoffs}
-use Rattle.match_play.specs.declared.line.MatchLine.{MatchLine}
+use Rattle.result_lines.specs.declared.line.MatchLine.{MatchLine}
 use Rattle.round_robin.specs.Totals.{AreLines}
 use Rattle.round_robin.specs.Contest.{Strategy, IsContestant, AreContestants, IsPair, ArePairs, IsSurePair, AreFewTurns, strategy_at, strategy_of, strategies_of}
 use Rattle.lab_file.specs.declared.tournament.TournamentJob.{TournamentJob}

@@ -7,7 +7,7 @@ use Rattle.std.proofs.lemmas.List.Elements.{All-push}
 use Rattle.drill.specs.Drill.{drill_name}
 use Rattle.player_core.specs.Sheet.{SheetData}
 use Rattle.round_robin.specs.declared.contestant.Contestant.{Contestant}
-use Rattle.round_robin.specs.declared.tables.EntryLine.{EntryLine}
+use Rattle.result_lines.specs.declared.tables.EntryLine.{EntryLine}
 use Rattle.axlab_core.specs.Contestants.{entrant_of, entrants_of}
 use Rattle.axlab_core.specs.Entrants.{Entrant}
 use Rattle.axlab_core.specs.Machines.{IsSmallTotal, is_first, line_at, still, sum_of_totals, total_at}

@@ -10,10 +10,10 @@ use Rattle.player_core.specs.State.{BenchState, Lasting, players_of}
 use Rattle.player_core.specs.Fits.{SidesFit}
 use Rattle.player_core.specs.Sheet.{SheetData}
 use Rattle.fixed_span.specs.Span.{Fraction}
-use Rattle.match_play.specs.declared.line.MatchLine.{MatchLine}
-use Rattle.round_robin.specs.declared.tables.EntryLine.{EntryLine}
+use Rattle.result_lines.specs.declared.line.MatchLine.{MatchLine}
+use Rattle.result_lines.specs.declared.tables.EntryLine.{EntryLine}
 use Rattle.round_robin.specs.Asked.{AreAsked, bench_turns}
-use Rattle.round_robin.specs.Totals.{entry_of, entries_of}
+use Rattle.result_lines.specs.Totals.{entry_of, entries_of}
 use Rattle.round_robin.specs.Truth.{nothing, true_rank}
 use Rattle.lab_report.specs.declared.report.Report.{Report}
 use Rattle.lab_report.specs.Names.{name_at}

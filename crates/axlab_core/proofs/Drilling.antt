@@ -12,7 +12,7 @@ use Rattle.player_core.specs.State.{Lasting}
 use Rattle.player_core.specs.Sheet.{SheetData, states}
 use Rattle.player_core.specs.Entry.{entry_automaton, plug_automaton}
 use Rattle.player_core.specs.Fits.{SidesFit, NoPlugNamed}
-use Rattle.match_play.specs.declared.line.MatchLine.{MatchLine}
+use Rattle.result_lines.specs.declared.line.MatchLine.{MatchLine}
 use Rattle.round_robin.specs.declared.contestant.Contestant.{Contestant}
 use Rattle.round_robin.specs.Contest.{Strategy, IsContestant, AreContestants, IsPair, ArePairs, IsSureStrategy, IsSurePair, AreFewTurns, no_strategy, strategy_at, strategy_of, strategies_of}
 use Rattle.axlab_core.specs.Contestants.{entrant_of}

@@ -13,14 +13,15 @@ use Rattle.player_core.specs.Sheet.{SheetData}
 use Rattle.player_core.specs.Fits.{SidesFit}
 use Rattle.player_core.specs.Rule.{FollowsRule}
 use Rattle.fixed_span.specs.Span.{Ends, Fraction, Holds, point, score_units}
-use Rattle.match_play.specs.declared.line.MatchLine.{MatchLine}
+use Rattle.result_lines.specs.declared.line.MatchLine.{MatchLine}
 use Rattle.product_chain.specs.Expected.{expected_score}
-use Rattle.round_robin.specs.declared.ranking.Rank.TheVariants.{At}
-use Rattle.round_robin.specs.declared.tables.EntryLine.{EntryLine}
+use Rattle.result_lines.specs.declared.ranking.Rank.TheVariants.{At}
+use Rattle.result_lines.specs.declared.tables.EntryLine.{EntryLine}
 use Rattle.round_robin.specs.Contest.{Strategy, IsPair, ArePairs, IsSurePair, no_strategy, strategy_at}
 use Rattle.round_robin.specs.Laws.{LinesHold}
-use Rattle.round_robin.specs.Ranks.{greater_among, others, rank_of, span_at}
-use Rattle.round_robin.specs.Totals.{AreLines, entry_of, entries_of, total_of, totals_of}
+use Rattle.result_lines.specs.Ranks.{greater_among, others, rank_of, span_at}
+use Rattle.result_lines.specs.Totals.{entry_of, entries_of, total_of, totals_of}
+use Rattle.round_robin.specs.Totals.{AreLines}
 use Rattle.round_robin.specs.Truth.{IsTrueTournament, SumsAreHeld, TournamentsAreTrue, expects_of, nothing, true_total, true_totals, true_rank}
 use Rattle.lab_report.specs.Valid.{drill_game}
 use Rattle.lab_file.specs.Tournament.{TournamentsAscend}

@@ -13,12 +13,12 @@ use Rattle.history_model.specs.declared.tally.Tally.{Tally}
 use Rattle.fixed_span.specs.declared.ordering.Verdict.TheVariants as verdicts
 use Rattle.fixed_span.specs.Span.{Ends, point}
 use Rattle.fixed_span.specs.Verdict.{is_level, verdict}
-use Rattle.match_play.specs.declared.line.MatchLine.{MatchLine}
+use Rattle.result_lines.specs.declared.line.MatchLine.{MatchLine}
 use Rattle.product_chain.specs.Expected.{IsSureMatch}
-use Rattle.round_robin.specs.declared.ranking.Rank.TheVariants.{At}
+use Rattle.result_lines.specs.declared.ranking.Rank.TheVariants.{At}
 use Rattle.round_robin.specs.Line.{IsScored}
-use Rattle.round_robin.specs.Ranks.{greater_among, is_undecided, others, rank_of, span_at, undecided_among}
-use Rattle.round_robin.specs.Totals.{total_of}
+use Rattle.result_lines.specs.Ranks.{greater_among, is_undecided, others, rank_of, span_at, undecided_among}
+use Rattle.result_lines.specs.Totals.{total_of}
 
 abbrev pub IsPoint : Ends → Type 0
 IsPoint span = span.lo ≡ span.hi

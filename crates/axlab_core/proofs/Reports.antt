@@ -5,7 +5,7 @@ use Rattle.std.proofs.lemmas.Slice.Eq.{bytes_eq-Decides}
 use Rattle.history_model.specs.declared.tally.Tally.{Tally}
 use Rattle.player_core.specs.State.{Lasting}
 use Rattle.player_core.specs.Fits.{SidesFit}
-use Rattle.match_play.specs.declared.line.MatchLine.{MatchLine}
+use Rattle.result_lines.specs.declared.line.MatchLine.{MatchLine}
 use Rattle.lab_report.specs.declared.report.Report.{Report}
 use Rattle.lab_report.specs.Names.{name_at}
 use Rattle.lab_report.specs.Text.{report_text}

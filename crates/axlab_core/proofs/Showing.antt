@@ -13,7 +13,7 @@ use Rattle.fixed_span.specs.Span.{Ends, point, score_units}
 use Rattle.player_core.specs.State.{Lasting}
 use Rattle.player_core.specs.Fits.{SidesFit}
 use Rattle.player_core.specs.Entry.{entry_automaton}
-use Rattle.match_play.specs.declared.line.MatchLine.{MatchLine}
+use Rattle.result_lines.specs.declared.line.MatchLine.{MatchLine}
 use Rattle.product_chain.specs.Expected.{IsPayable}
 use Rattle.round_robin.specs.Line.{IsLineOf, IsScored}
 use Rattle.lab_report.specs.Valid.{IsScore, IsShowable}

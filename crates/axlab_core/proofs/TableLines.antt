@@ -11,15 +11,16 @@ use Rattle.history_model.specs.Noise.{FlipRate}
 use Rattle.history_model.specs.Tally.{total}
 use Rattle.history_model.specs.declared.tally.Tally.{Tally}
 use Rattle.fixed_span.specs.Span.{Ends}
-use Rattle.match_play.specs.declared.line.MatchLine.{MatchLine}
+use Rattle.result_lines.specs.declared.line.MatchLine.{MatchLine}
 use Rattle.player_core.specs.State.{Lasting}
 use Rattle.player_core.specs.Fits.{SidesFit}
 use Rattle.round_robin.specs.declared.contestant.Contestant.{Contestant}
-use Rattle.round_robin.specs.declared.tables.Totals.{Totals}
+use Rattle.result_lines.specs.declared.tables.Totals.{Totals}
 use Rattle.round_robin.specs.Contest.{Strategy, IsPair, ArePairs, strategy_at, strategies_of}
-use Rattle.round_robin.specs.Laws.{LinesHold, IsScoreSpan}
+use Rattle.result_lines.specs.Totals.{IsScoreSpan, pairs_of, entries_of}
+use Rattle.round_robin.specs.Laws.{LinesHold}
 use Rattle.round_robin.specs.Line.{IsScored}
-use Rattle.round_robin.specs.Totals.{IsLineBetween, AreLines, pairs_of, entries_of}
+use Rattle.round_robin.specs.Totals.{IsLineBetween, AreLines}
 use Rattle.lab_report.specs.Valid.{IsScore, IsCounted, IsShowable}
 use Rattle.report_making.specs.Made.{AreResults}
 

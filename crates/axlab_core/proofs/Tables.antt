@@ -12,16 +12,17 @@ use Rattle.player_core.specs.Sheet.{IsSheet}
 use Rattle.player_core.specs.Fits.{SidesFit}
 use Rattle.player_core.specs.Rule.{FollowsRule}
 use Rattle.fixed_span.specs.Span.{Fraction, Holds, score_units}
-use Rattle.match_play.specs.declared.line.MatchLine.{MatchLine}
+use Rattle.result_lines.specs.declared.line.MatchLine.{MatchLine}
 use Rattle.report_lines.specs.declared.line.ShownMatch.{ShownMatch}
 use Rattle.round_robin.specs.declared.contestant.Contestant.{Contestant}
-use Rattle.round_robin.specs.declared.tables.EntryLine.{EntryLine}
-use Rattle.round_robin.specs.declared.tables.Totals.{Totals}
-use Rattle.round_robin.specs.declared.ranking.Rank.TheVariants.{At}
+use Rattle.result_lines.specs.declared.tables.EntryLine.{EntryLine}
+use Rattle.result_lines.specs.declared.tables.Totals.{Totals}
+use Rattle.result_lines.specs.declared.ranking.Rank.TheVariants.{At}
 use Rattle.round_robin.specs.OnBench.{AreAskedOn}
 use Rattle.round_robin.specs.Contest.{IsPair, ArePairs, strategies_of}
-use Rattle.round_robin.specs.Ranks.{rank_of}
-use Rattle.round_robin.specs.Totals.{IsLineBetween, AreLines, pairs_of, entry_of, entries_of, total_of, totals_of}
+use Rattle.result_lines.specs.Ranks.{rank_of}
+use Rattle.result_lines.specs.Totals.{pairs_of, entry_of, entries_of, total_of, totals_of}
+use Rattle.round_robin.specs.Totals.{IsLineBetween, AreLines}
 use Rattle.round_robin.specs.Truth.{IsTrueTournament, TournamentsAreTrue, expects_of, nothing, own_expected, plus, true_total, true_totals, true_rank}
 use Rattle.lab_report.specs.declared.report.Report.{Report}
 use Rattle.lab_report.specs.Names.{name_at}

@@ -7,9 +7,9 @@ use Rattle.player_core.specs.State.{Lasting}
 use Rattle.player_core.specs.Sheet.{SheetData, IsSheet}
 use Rattle.fixed_span.specs.Span.{Ends, Fraction, Holds, point, score_units}
 use Rattle.round_robin.specs.declared.contestant.Contestant.{Contestant}
-use Rattle.round_robin.specs.declared.ranking.Rank.{Rank}
-use Rattle.round_robin.specs.declared.ranking.Rank.TheVariants.{At, Undecided}
-use Rattle.round_robin.specs.declared.tables.EntryLine.{EntryLine}
+use Rattle.result_lines.specs.declared.ranking.Rank.{Rank}
+use Rattle.result_lines.specs.declared.ranking.Rank.TheVariants.{At, Undecided}
+use Rattle.result_lines.specs.declared.tables.EntryLine.{EntryLine}
 use Rattle.round_robin.specs.Contest.{Strategy}
 use Rattle.round_robin.specs.Truth.{nothing, plus, true_totals, true_rank}
 use Rattle.lab_report.specs.Valid.{drill_game}

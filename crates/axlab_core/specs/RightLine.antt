@@ -5,7 +5,7 @@ use Rattle.history_model.specs.Tally.{counts, left_points, right_points}
 use Rattle.history_model.specs.declared.tally.Tally.{Tally}
 use Rattle.player_core.specs.State.{BenchState, Lasting, players_of}
 use Rattle.fixed_span.specs.Span.{Holds, IsWithin, point, score_units}
-use Rattle.match_play.specs.declared.line.MatchLine.{MatchLine}
+use Rattle.result_lines.specs.declared.line.MatchLine.{MatchLine}
 use Rattle.product_chain.specs.Expected.{IsSureMatch, IsTight}
 use Rattle.lab_report.specs.declared.report.Report.{Report}
 use Rattle.round_robin.specs.Asked.{IsAsked, bench_turns}

@@ -5,11 +5,11 @@ use Rattle.player_core.specs.State.{BenchState, Lasting, no_name, players_of}
 use Rattle.player_core.specs.declared.kind.Kind.TheVariants.{Plug}
 use Rattle.history_model.specs.Noise.{no_noise}
 use Rattle.fixed_span.specs.Span.{Fraction, Holds, score_units}
-use Rattle.match_play.specs.declared.line.MatchLine.{MatchLine}
+use Rattle.result_lines.specs.declared.line.MatchLine.{MatchLine}
 use Rattle.round_robin.specs.Asked.{AreAsked, bench_turns}
 use Rattle.round_robin.specs.Contest.{Strategy}
-use Rattle.round_robin.specs.declared.tables.EntryLine.{EntryLine}
-use Rattle.round_robin.specs.declared.ranking.Rank.TheVariants.{At}
+use Rattle.result_lines.specs.declared.tables.EntryLine.{EntryLine}
+use Rattle.result_lines.specs.declared.ranking.Rank.TheVariants.{At}
 use Rattle.round_robin.specs.Truth.{nothing, true_totals, true_rank}
 use Rattle.lab_report.specs.declared.report.Body.TheVariants as bodies
 use Rattle.lab_report.specs.declared.report.Report.{Report}

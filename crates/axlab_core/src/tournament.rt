@@ -3,7 +3,8 @@ ghost use Rattle.std.specs.Prelude.{◌≡◌, ◌<◌, All, length, Some, Ok, I
 ghost use Rattle.player_core.specs.State.{players_of};
 ghost use Rattle.player_core.specs.Fits.{Fits};
 ghost use Rattle.player_core.specs.Bench.{KeepsBench, notes_of};
-ghost use Rattle.round_robin.specs.Totals.{AreLines, entries_of};
+ghost use Rattle.result_lines.specs.Totals.{entries_of};
+ghost use Rattle.round_robin.specs.Totals.{AreLines};
 ghost use Rattle.lab_report.specs.Text.{report_text};
 ghost use Rattle.lab_report.specs.Valid.{IsValid};
 ghost use Rattle.report_making.specs.Made.{AreResults, ShowsNames, tournament_report_of};

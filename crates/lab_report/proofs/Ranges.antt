@@ -12,7 +12,7 @@ use Rattle.history_model.specs.Name.{is_name, IsName}
 use Rattle.history_model.specs.Noise.{FlipRate, IsFlipRate}
 use Rattle.history_model.specs.Tally.{total, left_points, right_points}
 use Rattle.fixed_span.specs.Span.{Ends, point, score_units}
-use Rattle.match_play.specs.declared.line.MatchLine.{MatchLine}
+use Rattle.result_lines.specs.declared.line.MatchLine.{MatchLine}
 use Rattle.report_lines.specs.declared.line.ShownMatch.{ShownMatch}
 use Rattle.report_lines.specs.Texts.{is_payoff, are_payoffs, is_noise, is_turns, is_score, counts_are, is_match}
 use Rattle.lab_report.specs.MatchRules.{is_paid, pays}

@@ -6,8 +6,8 @@ use Rattle.history_model.specs.Game.{Payoffs, IsGame}
 use Rattle.history_model.specs.Name.{IsName}
 use Rattle.history_model.specs.Noise.{IsFlipRate}
 use Rattle.texts.specs.Grammar.{run}
-use Rattle.match_play.specs.declared.line.MatchLine.{MatchLine}
-use Rattle.round_robin.specs.declared.tables.EntryLine.{EntryLine}
+use Rattle.result_lines.specs.declared.line.MatchLine.{MatchLine}
+use Rattle.result_lines.specs.declared.tables.EntryLine.{EntryLine}
 use Rattle.report_lines.specs.declared.line.Kind.{Kind}
 use Rattle.report_lines.specs.declared.line.Kind.TheVariants as kinds
 use Rattle.report_lines.specs.declared.line.Line.{Line}

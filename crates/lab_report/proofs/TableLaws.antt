@@ -17,12 +17,12 @@ use Rattle.history_model.specs.Game.{Payoffs}
 use Rattle.history_model.specs.Name.{is_name, IsName}
 use Rattle.fixed_span.specs.Span.{Ends, add, point}
 use Rattle.fixed_span.specs.Verdict.{verdict}
-use Rattle.match_play.specs.declared.line.MatchLine.{MatchLine}
-use Rattle.round_robin.specs.declared.ranking.Rank.{Rank}
-use Rattle.round_robin.specs.declared.ranking.Rank.TheVariants as ranks
-use Rattle.round_robin.specs.declared.tables.EntryLine.{EntryLine}
-use Rattle.round_robin.specs.Ranks.{is_greater, rank_of, ranks_of, others, span_at, undecided_among, greater_among}
-use Rattle.round_robin.specs.Totals.{own_score, total_of, wins_of, undecided_of, wins_match, leaves_undecided}
+use Rattle.result_lines.specs.declared.line.MatchLine.{MatchLine}
+use Rattle.result_lines.specs.declared.ranking.Rank.{Rank}
+use Rattle.result_lines.specs.declared.ranking.Rank.TheVariants as ranks
+use Rattle.result_lines.specs.declared.tables.EntryLine.{EntryLine}
+use Rattle.result_lines.specs.Ranks.{is_greater, rank_of, ranks_of, others, span_at, undecided_among, greater_among}
+use Rattle.result_lines.specs.Totals.{own_score, total_of, wins_of, undecided_of, wins_match, leaves_undecided}
 use Rattle.report_lines.specs.declared.line.ShownEntry.{ShownEntry}
 use Rattle.report_lines.specs.declared.line.Line.{Line}
 use Rattle.report_lines.specs.declared.line.Line.TheVariants as lines

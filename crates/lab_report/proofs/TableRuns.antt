@@ -8,8 +8,8 @@ use Rattle.history_model.specs.Game.{Payoffs}
 use Rattle.history_model.specs.Name.{IsName}
 use Rattle.history_model.specs.Noise.{FlipRate}
 use Rattle.texts.specs.Grammar.{run}
-use Rattle.match_play.specs.declared.line.MatchLine.{MatchLine}
-use Rattle.round_robin.specs.declared.tables.EntryLine.{EntryLine}
+use Rattle.result_lines.specs.declared.line.MatchLine.{MatchLine}
+use Rattle.result_lines.specs.declared.tables.EntryLine.{EntryLine}
 use Rattle.report_lines.specs.declared.line.ShownMatch.{ShownMatch}
 use Rattle.report_lines.specs.declared.line.ShownEntry.{ShownEntry}
 use Rattle.report_lines.specs.declared.line.Line.{Line}

@@ -6,7 +6,7 @@ use Rattle.history_model.specs.Game.{Payoffs}
 use Rattle.history_model.specs.Noise.{FlipRate}
 use Rattle.history_model.specs.Tally.{left_points, right_points}
 use Rattle.fixed_span.specs.Span.{Ends, score_units}
-use Rattle.match_play.specs.declared.line.MatchLine.{MatchLine}
+use Rattle.result_lines.specs.declared.line.MatchLine.{MatchLine}
 use Rattle.report_lines.specs.declared.line.ShownMatch.{ShownMatch}
 use Rattle.report_lines.specs.declared.line.Line.{Line}
 use Rattle.report_lines.specs.declared.line.Line.TheVariants as lines

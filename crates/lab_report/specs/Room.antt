@@ -1,6 +1,6 @@
 -- The sizes that the lines of a tournament keep while they are read.
 use Rattle.std.specs.Prelude.{ℕ, ◌+◌, ◌*◌, ◌≤◌, All, List, length}
-use Rattle.round_robin.specs.Totals.{AreSummable}
+use Rattle.result_lines.specs.Totals.{AreSummable}
 use Rattle.lab_report.specs.declared.table.Table.{Table}
 
 -- few lines, at most two names a match and one an entry, and scores that can be summed

@@ -5,12 +5,12 @@ use Rattle.std.specs.Ordering.{int_eq}
 use Rattle.history_model.specs.Game.{Payoffs}
 use Rattle.history_model.specs.Noise.{FlipRate}
 use Rattle.fixed_span.specs.Span.{Ends}
-use Rattle.match_play.specs.declared.line.MatchLine.{MatchLine}
-use Rattle.round_robin.specs.declared.ranking.Rank.{Rank}
-use Rattle.round_robin.specs.declared.ranking.Rank.TheVariants as ranks
-use Rattle.round_robin.specs.declared.tables.EntryLine.{EntryLine}
-use Rattle.round_robin.specs.Ranks.{rank_of}
-use Rattle.round_robin.specs.Totals.{total_of, wins_of, undecided_of}
+use Rattle.result_lines.specs.declared.line.MatchLine.{MatchLine}
+use Rattle.result_lines.specs.declared.ranking.Rank.{Rank}
+use Rattle.result_lines.specs.declared.ranking.Rank.TheVariants as ranks
+use Rattle.result_lines.specs.declared.tables.EntryLine.{EntryLine}
+use Rattle.result_lines.specs.Ranks.{rank_of}
+use Rattle.result_lines.specs.Totals.{total_of, wins_of, undecided_of}
 use Rattle.report_lines.specs.declared.line.ShownMatch.{ShownMatch}
 use Rattle.report_lines.specs.declared.line.ShownEntry.{ShownEntry}
 use Rattle.report_lines.specs.declared.line.Line.{Line}

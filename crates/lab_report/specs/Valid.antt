@@ -7,10 +7,10 @@ use Rattle.history_model.specs.Name.{IsName}
 use Rattle.history_model.specs.Noise.{FlipRate, IsFlipRate, no_noise}
 use Rattle.history_model.specs.Tally.{total, left_points, right_points}
 use Rattle.fixed_span.specs.Span.{Ends, point, score_units}
-use Rattle.match_play.specs.declared.line.MatchLine.{MatchLine}
-use Rattle.round_robin.specs.declared.tables.EntryLine.{EntryLine}
-use Rattle.round_robin.specs.Ranks.{ranks_of}
-use Rattle.round_robin.specs.Totals.{total_of, wins_of, undecided_of}
+use Rattle.result_lines.specs.declared.line.MatchLine.{MatchLine}
+use Rattle.result_lines.specs.declared.tables.EntryLine.{EntryLine}
+use Rattle.result_lines.specs.Ranks.{ranks_of}
+use Rattle.result_lines.specs.Totals.{total_of, wins_of, undecided_of}
 use Rattle.lab_report.specs.declared.report.Body.{Body}
 use Rattle.lab_report.specs.declared.report.Body.TheVariants as bodies
 use Rattle.lab_report.specs.declared.report.Report.{Report}

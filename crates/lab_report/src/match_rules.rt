@@ -9,7 +9,7 @@ use crate::state::{BodySoFar, State};
 use crate::{Body, Names};
 use fixed_span::Span;
 use history_model::{Game, NoMemory, Noise, Tally};
-use match_play::MatchLine;
+use result_lines::MatchLine;
 use report_lines::{Line, ShownMatch};
 
 fn is_paid(score: Span, points: u128) -> bool

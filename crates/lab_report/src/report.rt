@@ -1,8 +1,7 @@
 //! What a report says.
 use crate::{Leaders, Names, Noises, Places};
 use history_model::{Game, Noise};
-use match_play::MatchLine;
-use round_robin::{EntryLines, MatchLines};
+use result_lines::{EntryLines, MatchLine, MatchLines};
 
 /// The lines of a report that its first word names. Entries are places in the report's names.
 #[derive(Drop)]

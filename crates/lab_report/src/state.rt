@@ -2,7 +2,7 @@
 use crate::table::Table;
 use crate::{Body, Leaders, Names};
 use history_model::{Game, Noise};
-use match_play::MatchLine;
+use result_lines::MatchLine;
 
 /// The lines of a body so far, by what the report is of.
 #[derive(Drop)]

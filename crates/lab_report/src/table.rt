@@ -3,8 +3,7 @@ ghost use Rattle.std.specs.Prelude.{◌≡◌, ◌++◌, ◌∷◌, [], IfOk};
 
 use crate::Places;
 use history_model::NoMemory;
-use match_play::MatchLine;
-use round_robin::{EntryLine, EntryLines, MatchLines};
+use result_lines::{EntryLine, EntryLines, MatchLine, MatchLines};
 use std::alloc::Global;
 
 /// Matches, and the lines of the entries that `who` names.

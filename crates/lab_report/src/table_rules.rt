@@ -1,8 +1,8 @@
 //! What may follow in the report of a tournament.
 ghost use Rattle.std.specs.Prelude.{◌≡◌, ◌≤◌, ◌<◌, ◌-◌, ◌^◌, true, All, length, map, IfOk};
 ghost use Rattle.report_lines.specs.Texts.{is_line, is_match};
-ghost use Rattle.round_robin.specs.Totals.{AreSummable, total_of, wins_of, undecided_of};
-ghost use Rattle.round_robin.specs.Ranks.{rank_of};
+ghost use Rattle.result_lines.specs.Totals.{AreSummable, total_of, wins_of, undecided_of};
+ghost use Rattle.result_lines.specs.Ranks.{rank_of};
 ghost use Rattle.lab_report.specs.Room.{HasTableRoom};
 ghost use Rattle.lab_report.specs.Names.{place_in};
 ghost use Rattle.lab_report.specs.TableRules.{rank_read, unnamed, same_ends, adds_up, is_listed, are_listed, totals_in, same_rank, ranked_from, are_ranked, match_fits, entry_fits, is_whole, with_match, with_entry, table_allows, after_table};
@@ -14,9 +14,8 @@ use crate::state::{BodySoFar, State};
 use crate::table::Table;
 use fixed_span::Span;
 use history_model::{Game, NoMemory, Noise};
-use match_play::MatchLine;
+use result_lines::{EntryLine, MatchLine, Rank, rank_of, total_of, undecided_of, wins_of};
 use report_lines::{Line, ShownEntry, ShownMatch};
-use round_robin::{EntryLine, Rank, rank_of, total_of, undecided_of, wins_of};
 use std::alloc::Global;
 
 // An undecided rank has no number.

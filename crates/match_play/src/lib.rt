@@ -3,7 +3,6 @@
 #![tactic(auto)]
 
 mod grids;
-mod line;
 mod long;
 mod long_on_bench;
 mod on_bench;
@@ -13,10 +12,10 @@ mod turn_by_turn;
 
 pub use grids::tabulate_sheets;
 pub use history_model::Tally;
-pub use line::MatchLine;
 pub use long::play_long;
 pub use long_on_bench::play_sheets_long;
 pub use on_bench::play_sheets;
+pub use result_lines::MatchLine;
 pub use sureness::is_sure_on;
 pub use trail::Trail;
 pub use turn_by_turn::play;

@@ -14,11 +14,11 @@ use Rattle.history_model.specs.Game.{Payoffs, IsGame}
 use Rattle.history_model.specs.Name.{IsName}
 use Rattle.history_model.specs.Noise.{FlipRate, IsFlipRate}
 use Rattle.fixed_span.specs.Span.{Ends}
-use Rattle.match_play.specs.declared.line.MatchLine.{MatchLine}
-use Rattle.round_robin.specs.declared.tables.EntryLine.{EntryLine}
-use Rattle.round_robin.specs.declared.tables.Totals.{Totals}
-use Rattle.round_robin.specs.Ranks.{rank_of, ranks_of}
-use Rattle.round_robin.specs.Totals.{own_score, total_of, totals_of, wins_match, leaves_undecided, entry_of, entries_of}
+use Rattle.result_lines.specs.declared.line.MatchLine.{MatchLine}
+use Rattle.result_lines.specs.declared.tables.EntryLine.{EntryLine}
+use Rattle.result_lines.specs.declared.tables.Totals.{Totals}
+use Rattle.result_lines.specs.Ranks.{rank_of, ranks_of}
+use Rattle.result_lines.specs.Totals.{own_score, total_of, totals_of, wins_match, leaves_undecided, entry_of, entries_of}
 use Rattle.lab_report.specs.declared.report.Body.TheVariants as bodies
 use Rattle.lab_report.specs.declared.report.Report.{Report}
 use Rattle.lab_report.specs.Names.{NamesGrow, name_at, with_name, with_names, place_in}

@@ -2,9 +2,9 @@
 use Rattle.std.specs.Prelude.{ℕ, ℤ, ◌≡◌, ◌≤◌, All, List, [], ◌∷◌, ◌++◌, length, map, if◌then◌else◌, bytes_eq}
 use Rattle.history_model.specs.Game.{Payoffs}
 use Rattle.history_model.specs.Noise.{FlipRate, no_noise}
-use Rattle.match_play.specs.declared.line.MatchLine.{MatchLine}
-use Rattle.round_robin.specs.declared.tables.Totals.{Totals}
-use Rattle.round_robin.specs.Totals.{entries_of}
+use Rattle.result_lines.specs.declared.line.MatchLine.{MatchLine}
+use Rattle.result_lines.specs.declared.tables.Totals.{Totals}
+use Rattle.result_lines.specs.Totals.{entries_of}
 use Rattle.lab_report.specs.declared.report.Body.TheVariants as bodies
 use Rattle.lab_report.specs.declared.report.Report.{Report}
 use Rattle.lab_report.specs.Names.{name_at, place_in, with_names}

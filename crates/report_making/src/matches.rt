@@ -5,7 +5,7 @@ ghost use Rattle.report_making.specs.Made.{match_report_of, names_of_pair};
 
 use history_model::{Game, Name, NoMemory, Noise};
 use lab_report::{Body, Names, Noises, Report};
-use match_play::MatchLine;
+use result_lines::MatchLine;
 use std::alloc::Global;
 
 fn is_same(left: &Name, right: &Name) -> bool

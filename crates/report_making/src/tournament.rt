@@ -8,8 +8,7 @@ ghost use Rattle.report_making.specs.Made.{AreResults, ShowsNames, moved_match, 
 
 use history_model::{Game, Name, NoMemory, Noise};
 use lab_report::{Body, Names, Noises, Places, Report, names_grow, place_in};
-use match_play::MatchLine;
-use round_robin::{EntryLine, EntryLines, MatchLines, Totals};
+use result_lines::{EntryLine, EntryLines, MatchLine, MatchLines, Totals};
 use std::alloc::Global;
 
 // The names that matches show, each where it first comes.

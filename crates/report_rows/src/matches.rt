@@ -6,7 +6,7 @@ use crate::shared::{changed, check_text, read, refused_line};
 use fixed_span::Span;
 use history_model::{Game, Name, Noise, Tally};
 use lab_report::{Body, Names, Noises, Report};
-use match_play::MatchLine;
+use result_lines::MatchLine;
 use report_making::match_report;
 use std::alloc::Global;
 use std::test::Fail;

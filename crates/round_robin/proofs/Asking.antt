@@ -4,7 +4,7 @@ use Rattle.std.specs.List.{sum}
 use Rattle.history_model.specs.Automaton.{Automaton}
 use Rattle.history_model.specs.Game.{Payoffs}
 use Rattle.history_model.specs.Noise.{FlipRate}
-use Rattle.match_play.specs.declared.line.MatchLine.{MatchLine}
+use Rattle.result_lines.specs.declared.line.MatchLine.{MatchLine}
 use Rattle.match_play.specs.Fresh.{IsFresh}
 use Rattle.match_play.specs.Match.{AdvancedAtMost}
 use Rattle.player_core.specs.State.{BenchState}

@@ -12,13 +12,14 @@ use Rattle.player_core.specs.Bench.{KeepsBench, KeepsPlugs, NoAdvancesFell}
 use Rattle.player_core.specs.Counts.{turns_of}
 use Rattle.player_core.specs.Laws.{EntriesPlay, KeepingLasts}
 use Rattle.match_play.specs.Known.{IsKnown}
-use Rattle.match_play.specs.declared.line.MatchLine.{MatchLine}
+use Rattle.result_lines.specs.declared.line.MatchLine.{MatchLine}
 use Rattle.round_robin.specs.declared.contestant.Contestant.{Contestant}
 use Rattle.history_model.specs.Noise.{FlipRate}
 use Rattle.player_core.specs.Entry.{entry_automaton}
 use Rattle.round_robin.specs.Asked.{Turns, AreAsked, AtMostTurns, IsAsked, PairAsked, most_advances, most_for, most_of}
 use Rattle.round_robin.specs.Contest.{AreFewTurns, AreTold, IsContestant, IsPair, IsSurePair, Strategy, pair_at, strategies_of, strategy_at, strategy_of}
-use Rattle.round_robin.specs.Totals.{AreLines, HasScores, IsLineBetween}
+use Rattle.result_lines.specs.Totals.{HasScores}
+use Rattle.round_robin.specs.Totals.{AreLines, IsLineBetween}
 use Rattle.round_robin.proofs.AskingAll.{asked_more, most_stopped, none_asked, pair_asked, pair_at_most}
 
 -- ---- a bench that keeps its plugs

@@ -1,9 +1,9 @@
 -- Pairs in strictly ascending order are few.
 use Rattle.std.proofs.Common.{◌≡◌, ◌⊎◌, inl, inr, ℕ, zero, suc, ◌+◌, ◌*◌, ◌≤◌, ◌<◌, List, length, ap, subst, add-one, arith}
 use Rattle.std.proofs.lemmas.List.{length-map}
-use Rattle.match_play.specs.declared.line.MatchLine.{MatchLine}
+use Rattle.result_lines.specs.declared.line.MatchLine.{MatchLine}
 use Rattle.round_robin.specs.Contest.{ArePairs, IsBefore, pair_at}
-use Rattle.round_robin.specs.Totals.{pairs_of}
+use Rattle.result_lines.specs.Totals.{pairs_of}
 
 -- a pair of places below 64 as one number
 abbrev number : ℕ × ℕ → ℕ

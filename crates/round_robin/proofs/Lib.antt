@@ -2,10 +2,8 @@ pub mod Asking
 pub mod AskingAll
 pub mod Contesting
 pub mod Counting
-pub mod Listing
 pub mod Paying
 pub mod Ranging
-pub mod Summing
 pub mod Telling
 pub mod TrueRanks
 pub mod TrueTotals

@@ -19,7 +19,7 @@ use Rattle.fixed_span.specs.Span.{Ends, Fraction, Holds, point, score_units}
 use Rattle.product_chain.specs.Expected.{expected_score, IsSureMatch}
 use Rattle.round_robin.specs.Laws.{AreSides, ArePointsExpected, HoldsExpectations}
 use Rattle.round_robin.specs.Line.{IsScored}
-use Rattle.match_play.specs.declared.line.MatchLine.{MatchLine}
+use Rattle.result_lines.specs.declared.line.MatchLine.{MatchLine}
 
 -- all of a number at one move, and none at the other
 abbrev only : Move → ℕ → Move → ℕ

@@ -12,9 +12,10 @@ use Rattle.history_model.specs.Noise.{FlipRate}
 use Rattle.history_model.specs.Path.{sure_play, path, match_path}
 use Rattle.history_model.specs.Tally.{total, left_points, right_points, CountsArePaid}
 use Rattle.fixed_span.specs.Span.{Ends, point, score_units}
-use Rattle.match_play.specs.declared.line.MatchLine.{MatchLine}
+use Rattle.result_lines.specs.declared.line.MatchLine.{MatchLine}
 use Rattle.product_chain.specs.Expected.{expected_score, IsPayable}
-use Rattle.round_robin.specs.Laws.{AreSides, IsInRange, IsScoreSpan, LinesHold}
+use Rattle.result_lines.specs.Totals.{IsScoreSpan}
+use Rattle.round_robin.specs.Laws.{AreSides, IsInRange, LinesHold}
 use Rattle.round_robin.specs.Line.{IsExpected, IsScored}
 use Rattle.round_robin.proofs.Paying.{held_by, points_expected}
 

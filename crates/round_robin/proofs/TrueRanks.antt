@@ -8,8 +8,8 @@ use Rattle.fixed_span.specs.declared.ordering.Verdict.{Verdict}
 use Rattle.fixed_span.specs.declared.ordering.Verdict.TheVariants as verdicts
 use Rattle.fixed_span.specs.Span.{Ends, Fraction, Holds}
 use Rattle.fixed_span.specs.Verdict.{IsTrueOf, VerdictsAreTrue, verdict}
-use Rattle.round_robin.specs.declared.ranking.Rank.TheVariants.{At, Undecided}
-use Rattle.round_robin.specs.Ranks.{greater_among, is_greater, is_undecided, others, span_at, undecided_among}
+use Rattle.result_lines.specs.declared.ranking.Rank.TheVariants.{At, Undecided}
+use Rattle.result_lines.specs.Ranks.{greater_among, is_greater, is_undecided, others, span_at, undecided_among}
 use Rattle.round_robin.specs.Truth.{RanksAreTrue, is_less, nothing}
 
 less_is : (a b : ℤ) → a <ℤ b → int_lt a b ≡ true

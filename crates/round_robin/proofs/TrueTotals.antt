@@ -8,10 +8,11 @@ use Rattle.std.proofs.Math.Nat.{mul-pos}
 use Rattle.history_model.specs.Game.{Payoffs}
 use Rattle.fixed_span.specs.Span.{Ends, Fraction, Holds, add, point, score_units}
 use Rattle.fixed_span.proofs.Signed.{*ℤ-+ℤ, +ℤ-*ℤ, *ℤ_assoc, *ℤ-le}
-use Rattle.match_play.specs.declared.line.MatchLine.{MatchLine}
+use Rattle.result_lines.specs.declared.line.MatchLine.{MatchLine}
 use Rattle.round_robin.specs.Contest.{Strategy, strategy_at}
 use Rattle.round_robin.specs.Laws.{LinesHold}
-use Rattle.round_robin.specs.Totals.{AreLines, own_score, pairs_of, total_of}
+use Rattle.result_lines.specs.Totals.{own_score, pairs_of, total_of}
+use Rattle.round_robin.specs.Totals.{AreLines}
 use Rattle.round_robin.specs.Truth.{HoldsExpected, TotalsHoldTrueTotals, expects_of, nothing, own_expected, plus, true_total}
 
 -- ---- sums

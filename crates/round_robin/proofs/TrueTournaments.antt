@@ -4,7 +4,7 @@ use Rattle.std.specs.List.{range_with_len}
 use Rattle.std.proofs.lemmas.List.FromFn.{length-map-range_with_len}
 use Rattle.fixed_span.specs.Span.{Holds, score_units}
 use Rattle.round_robin.specs.Laws.{LinesHold}
-use Rattle.round_robin.specs.Totals.{total_of, totals_of}
+use Rattle.result_lines.specs.Totals.{total_of, totals_of}
 use Rattle.round_robin.specs.Truth.{RanksAreTrue, TotalsHoldTrueTotals, TournamentsAreTrue, expects_of, true_total, true_totals}
 use Rattle.round_robin.proofs.TrueRanks.{held_places}
 use Rattle.round_robin.proofs.TrueTotals.{lines_expected}

@@ -7,7 +7,7 @@ use Rattle.history_model.specs.Noise.{FlipRate, IsFlipRate}
 use Rattle.history_model.specs.Path.{match_path}
 use Rattle.history_model.specs.Tally.{counts, total, left_points, right_points}
 use Rattle.fixed_span.specs.Span.{Ends, Holds, score_units}
-use Rattle.match_play.specs.declared.line.MatchLine.{MatchLine}
+use Rattle.result_lines.specs.declared.line.MatchLine.{MatchLine}
 use Rattle.product_chain.specs.Expected.{expected_score, IsSureMatch}
 use Rattle.round_robin.specs.Line.{IsLineOf}
 
@@ -29,12 +29,6 @@ pub record ArePointsExpected (a : Automaton) (na : FlipRate) (b : Automaton) (nb
 pub record HoldsExpectations (a : Automaton) (na : FlipRate) (b : Automaton) (nb : FlipRate) (game : Payoffs) (n : ℕ) (line : MatchLine) : Type 0 where
   pub left : Holds score_units line.left_score (expected_score (player a) na (player b) nb game 0 n)
   pub right : Holds score_units line.right_score (expected_score (player b) nb (player a) na game 0 n)
-
--- the two ends of a score
-pub record IsScoreSpan (span : Ends) : Type 0 where
-  pub low : pos 0 ≤ℤ span.lo
-  pub ordered : span.lo ≤ℤ span.hi
-  pub high : span.hi ≤ℤ pos (10 ^ 30)
 
 -- the scores of a match of n turns are in range, and its counts make up the turns
 pub record IsInRange (n : ℕ) (line : MatchLine) : Type 0 where

@@ -2,7 +2,6 @@ pub mod Asked
 pub mod Contest
 pub mod Laws
 pub mod Line
-pub mod Ranks
 pub mod Totals
 pub mod Truth
 pub mod OnBench

@@ -8,7 +8,7 @@ use Rattle.history_model.specs.Path.{match_path}
 use Rattle.history_model.specs.Tally.{counts, left_points, right_points}
 use Rattle.history_model.specs.declared.tally.Tally.{Tally}
 use Rattle.fixed_span.specs.Span.{Ends, Holds, IsWithin, point, score_units}
-use Rattle.match_play.specs.declared.line.MatchLine.{MatchLine}
+use Rattle.result_lines.specs.declared.line.MatchLine.{MatchLine}
 use Rattle.product_chain.specs.Expected.{expected_score, IsPayable, IsSharp, IsSureMatch, IsTight}
 
 -- the span of what a expects against b in n turns: it holds the exact fraction, and is narrow

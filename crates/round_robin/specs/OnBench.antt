@@ -4,7 +4,7 @@ use Rattle.history_model.specs.Automaton.{Automaton}
 use Rattle.history_model.specs.Game.{Payoffs}
 use Rattle.player_core.specs.State.{BenchState, players_of}
 use Rattle.player_core.specs.Entry.{entry_on}
-use Rattle.match_play.specs.declared.line.MatchLine.{MatchLine}
+use Rattle.result_lines.specs.declared.line.MatchLine.{MatchLine}
 use Rattle.product_chain.specs.Expected.{IsSureMatch}
 use Rattle.round_robin.specs.declared.contestant.Contestant.{Contestant}
 use Rattle.round_robin.specs.declared.entrant.Entrant.{Entrant}

@@ -4,12 +4,13 @@ use Rattle.std.specs.List.{AllZip, range_with_len}
 use Rattle.history_model.specs.Expectation.{player}
 use Rattle.history_model.specs.Game.{Payoffs}
 use Rattle.fixed_span.specs.Span.{Ends, Fraction, Holds, add, over, score_units}
-use Rattle.match_play.specs.declared.line.MatchLine.{MatchLine}
+use Rattle.result_lines.specs.declared.line.MatchLine.{MatchLine}
 use Rattle.product_chain.specs.Expected.{expected_score}
-use Rattle.round_robin.specs.declared.ranking.Rank.TheVariants.{At}
+use Rattle.result_lines.specs.declared.ranking.Rank.TheVariants.{At}
 use Rattle.round_robin.specs.Contest.{Strategy, ArePairs, strategy_at}
-use Rattle.round_robin.specs.Ranks.{rank_of}
-use Rattle.round_robin.specs.Totals.{AreLines, pairs_of, total_of, totals_of}
+use Rattle.result_lines.specs.Ranks.{rank_of}
+use Rattle.result_lines.specs.Totals.{pairs_of, total_of, totals_of}
+use Rattle.round_robin.specs.Totals.{AreLines}
 
 -- ---- fractions
 

@@ -7,16 +7,12 @@ mod entrant;
 pub mod laws;
 mod lines;
 mod pairing;
-mod ranking;
-mod scoring;
 mod sureness;
-mod tables;
 mod tournament;
 
 pub use contestant::Contestant;
 pub use entrant::Entrant;
 pub use lines::match_line;
-pub use ranking::{Rank, rank_of, ranks};
-pub use scoring::{total_of, undecided_of, wins_of};
-pub use tables::{EntryLine, EntryLines, MatchLines, Totals};
+pub use result_lines::{EntryLine, EntryLines, MatchLines, Rank, Totals};
+pub use result_lines::{rank_of, ranks, total_of, undecided_of, wins_of};
 pub use tournament::totals;

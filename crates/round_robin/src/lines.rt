@@ -5,7 +5,8 @@ ghost use Rattle.player_core.specs.Bench.{KeepsBench, NoAdvancesFell};
 ghost use Rattle.fixed_span.specs.Span.{point, score_units};
 ghost use Rattle.match_play.specs.Known.{IsKnownOn};
 ghost use Rattle.product_chain.specs.Expected.{IsPayable};
-ghost use Rattle.round_robin.specs.Laws.{IsInRange, IsScoreSpan};
+ghost use Rattle.result_lines.specs.Totals.{IsScoreSpan};
+ghost use Rattle.round_robin.specs.Laws.{IsInRange};
 ghost use Rattle.round_robin.specs.OnBench.{AreSidesOn, AtMostOn, IsAskedOn, IsLineOn, IsSureOn};
 
 use crate::Entrant;

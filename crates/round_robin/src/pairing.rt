@@ -5,7 +5,8 @@ ghost use Rattle.player_core.specs.Fits.{Fits};
 ghost use Rattle.player_core.specs.Bench.{KeepsBench, NoAdvancesFell};
 ghost use Rattle.round_robin.specs.Contest.{AreContestants, AreFewTurns, AreTold, IsContestant, IsPair, IsSurePair, IsSureStrategy, Strategy, strategy_at};
 ghost use Rattle.round_robin.specs.OnBench.{AreAskedOn, AtMostForOn, PairAskedOn, PairAtMostOn, strategies_on};
-ghost use Rattle.round_robin.specs.Totals.{AreLines, HasScores, IsLineBetween};
+ghost use Rattle.result_lines.specs.Totals.{HasScores};
+ghost use Rattle.round_robin.specs.Totals.{AreLines, IsLineBetween};
 
 use crate::sureness::{entrant, sure_ones};
 use crate::{Contestant, match_line};

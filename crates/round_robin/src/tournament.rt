@@ -5,14 +5,15 @@ ghost use Rattle.player_core.specs.Fits.{Fits};
 ghost use Rattle.player_core.specs.Bench.{KeepsBench};
 ghost use Rattle.round_robin.specs.Contest.{AreContestants, AreFewTurns, ArePairs};
 ghost use Rattle.round_robin.specs.OnBench.{AreAskedOn, AtMostForOn, strategies_on};
-ghost use Rattle.round_robin.specs.Totals.{AreLines, entries_of};
+ghost use Rattle.result_lines.specs.Totals.{entries_of};
+ghost use Rattle.round_robin.specs.Totals.{AreLines};
 
 use crate::pairing::pair_lines;
-use crate::scoring::entries_of;
 use crate::{Contestant, EntryLines, MatchLines, Totals};
 use history_model::{Game, NoMemory};
 use match_play::Trail;
 use player_core::{Bench, Player, Seen};
+use result_lines::entries_of;
 use std::alloc::Global;
 
 /// The matches of the pairs of a tournament of 1 to 64 contestants, in the order of the pairs, and what

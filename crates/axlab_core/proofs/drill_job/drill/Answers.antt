@@ -1,7 +1,7 @@
 use Rattle.std.proofs.Common.{◌≡◌, ap, subst, sym, ◌∙◌, length, rules, arith, FitsSigned}
 use Rattle.std.specs.Int.{w128}
 use Rattle.std.proofs.lemmas.Int.{to_z-of_z}
-use Rattle.round_robin.specs.Totals.{entries_of}
+use Rattle.result_lines.specs.Totals.{entries_of}
 use Rattle.lab_report.specs.Valid.{IsTotal}
 use Rattle.axlab_core.specs.Machines.{AreMachines}
 use Rattle.axlab_core.proofs.DrillReports.{as_many, asked_if, few_pairs, first_few, machines_named, right_drill_if, sum_is_total, whole_sum}

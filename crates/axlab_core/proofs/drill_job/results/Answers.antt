@@ -1,5 +1,5 @@
 use Rattle.std.proofs.Common.{ap, sym, ◌∙◌}
-use Rattle.round_robin.specs.Totals.{entries_of}
+use Rattle.result_lines.specs.Totals.{entries_of}
 use Rattle.axlab_core.proofs.Drilling.{ArePlayed, asked_known, known_contestants, known_pairs, known_turns, lines_known, many_contestants}
 use Rattle.axlab_core.proofs.drill_job.results.Goals as goal
 

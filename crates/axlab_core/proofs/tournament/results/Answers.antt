@@ -1,5 +1,5 @@
 use Rattle.std.proofs.Common.{length, ap, ◌∙◌}
-use Rattle.round_robin.specs.Totals.{entries_of}
+use Rattle.result_lines.specs.Totals.{entries_of}
 use Rattle.lab_file.specs.Lab.{LabData}
 use Rattle.lab_file.specs.Tournament.{tournament_pairs}
 use Rattle.axlab_core.proofs.Contesting.{are_contestants, are_pairs, are_pairs_of, are_few_turns, few_turns_of}

@@ -4,12 +4,11 @@ use Rattle.std.specs.List.{All}
 use Rattle.std.proofs.lemmas.Int.{ints}
 use Rattle.std.proofs.lemmas.List.FromFn.{length-map-range_with_len, get_or-map-range_with_len}
 use Rattle.fixed_span.specs.Span.{Ends, add, point}
-use Rattle.match_play.specs.declared.line.MatchLine.{MatchLine}
-use Rattle.round_robin.specs.declared.tables.EntryLine.{EntryLine}
-use Rattle.round_robin.specs.declared.ranking.Rank.{Rank}
-use Rattle.round_robin.specs.Laws.{IsScoreSpan}
-use Rattle.round_robin.specs.Ranks.{rank_of}
-use Rattle.round_robin.specs.Totals.{AreSummable, HasScores, IsSummable, entry_of, own_score, total_of, totals_of, undecided_of, wins_of}
+use Rattle.result_lines.specs.declared.line.MatchLine.{MatchLine}
+use Rattle.result_lines.specs.declared.tables.EntryLine.{EntryLine}
+use Rattle.result_lines.specs.declared.ranking.Rank.{Rank}
+use Rattle.result_lines.specs.Totals.{IsScoreSpan, AreSummable, HasScores, IsSummable, entry_of, own_score, total_of, totals_of, undecided_of, wins_of}
+use Rattle.result_lines.specs.Ranks.{rank_of}
 
 -- ---- totals
 

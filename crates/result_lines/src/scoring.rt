@@ -1,14 +1,13 @@
 //! What a tournament makes of its lines for each entry.
 ghost use Rattle.std.specs.Prelude.{◌≡◌, ◌+◌, ◌<◌, ◌≤◌, ◌^◌, All, IfOk, length, map, count_by};
 ghost use Rattle.fixed_span.specs.Verdict.{verdict};
-ghost use Rattle.round_robin.specs.Ranks.{rank_of};
-ghost use Rattle.round_robin.specs.Totals.{AreSummable, HasScores, entries_of, entry_of, leaves_undecided, meets_another, own_score, own_verdict, total_of, totals_of, undecided_of, wins_match, wins_of};
+ghost use Rattle.result_lines.specs.Ranks.{rank_of};
+ghost use Rattle.result_lines.specs.Totals.{AreSummable, HasScores, entries_of, entry_of, leaves_undecided, meets_another, own_score, own_verdict, total_of, totals_of, undecided_of, wins_match, wins_of};
 
 use crate::ranking::{is_greater, is_undecided};
-use crate::{EntryLine, rank_of};
+use crate::{EntryLine, MatchLine, rank_of};
 use fixed_span::{Span, Verdict, compare};
 use history_model::NoMemory;
-use match_play::MatchLine;
 use std::alloc::Global;
 
 // What a match adds to the total of an entry.
@@ -90,8 +89,12 @@ fn totals_of(alloc: Global, lines: &[MatchLine], count: u32) -> Result<Vec<Span>
     Ok(spans)
 }
 
-// The lines of so many entries, from at most 4,096 matches whose scores are in range.
-pub(crate) fn entries_of(
+/// The lines of so many entries, from at most 4,096 matches whose scores are from 0 to 10^30 units.
+///
+/// # Errors
+///
+/// `NoMemory` where the totals or the lines find no memory.
+pub fn entries_of(
     alloc: Global,
     lines: &[MatchLine],
     count: u32,

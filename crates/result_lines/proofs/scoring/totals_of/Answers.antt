@@ -1,6 +1,6 @@
-use Rattle.round_robin.proofs.Listing.{pushed_more}
-use Rattle.round_robin.proofs.Summing.{all_summable}
-use Rattle.round_robin.proofs.scoring.totals_of.Goals as goal
+use Rattle.result_lines.proofs.Listing.{pushed_more}
+use Rattle.result_lines.proofs.Summing.{all_summable}
+use Rattle.result_lines.proofs.scoring.totals_of.Goals as goal
 
 pub total_of-requires-clause-scores : goal.total_of-requires-clause-scores
 total_of-requires-clause-scores c = all_summable c.args.lines.now c.requires.scores

@@ -2,7 +2,7 @@
 ghost use Rattle.std.specs.Prelude.{◌≡◌, ◌+◌, ◌<◌, ◌^◌, length, map, IfOk, count_by};
 ghost use Rattle.std.specs.List.{list_any};
 ghost use Rattle.fixed_span.specs.Verdict.{verdict};
-ghost use Rattle.round_robin.specs.Ranks.{greater_among, is_greater, is_undecided, rank_of, ranks_of, undecided_among};
+ghost use Rattle.result_lines.specs.Ranks.{greater_among, is_greater, is_undecided, rank_of, ranks_of, undecided_among};
 
 use fixed_span::{Span, Verdict, compare};
 use history_model::NoMemory;

@@ -1,5 +1,5 @@
-use Rattle.round_robin.proofs.Listing.{pushed_more}
-use Rattle.round_robin.proofs.ranking.ranks.Goals as goal
+use Rattle.result_lines.proofs.Listing.{pushed_more}
+use Rattle.result_lines.proofs.ranking.ranks.Goals as goal
 
 pub loop-i-preserved : goal.loop-i-preserved
 loop-i-preserved c = pushed_more _ _ _ _ _ c.in_ok-push.ensures.items c.loop-i.invariant c.rank_of.ensures

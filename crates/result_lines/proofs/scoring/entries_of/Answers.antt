@@ -1,9 +1,9 @@
 use Rattle.std.proofs.Common.{List, arith, ap, ◌∙◌}
 use Rattle.fixed_span.specs.Span.{Ends}
-use Rattle.round_robin.specs.Ranks.{rank_of}
-use Rattle.round_robin.proofs.Listing.{pushed_more}
-use Rattle.round_robin.proofs.Summing.{as_many, entry_is, total_read}
-use Rattle.round_robin.proofs.scoring.entries_of.Goals as goal
+use Rattle.result_lines.specs.Ranks.{rank_of}
+use Rattle.result_lines.proofs.Listing.{pushed_more}
+use Rattle.result_lines.proofs.Summing.{as_many, entry_is, total_read}
+use Rattle.result_lines.proofs.scoring.entries_of.Goals as goal
 
 pub index-requires : goal.index-requires
 index-requires c = let many = as_many _ _ _ c.in_ok-spans.ensures in omega arith

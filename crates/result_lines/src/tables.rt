@@ -1,9 +1,8 @@
 //! The lists of a tournament: its matches, and its entries.
 ghost use Rattle.std.specs.Prelude.{◌≡◌};
 
-use crate::Rank;
+use crate::{MatchLine, Rank};
 use fixed_span::Span;
-use match_play::MatchLine;
 use std::marker::Model;
 
 /// What a tournament makes of an entry: the sum of its own spans in units of 10^-12, its rank by the
@@ -24,7 +23,7 @@ pub struct MatchLines {
 
 impl Model for MatchLines {
     ghost use Rattle.std.specs.Prelude.{List};
-    ghost use Rattle.match_play.specs.declared.line.MatchLine.{MatchLine};
+    ghost use Rattle.result_lines.specs.declared.line.MatchLine.{MatchLine};
 
     ghost Value = { List MatchLine };
 
@@ -62,7 +61,7 @@ pub struct EntryLines {
 
 impl Model for EntryLines {
     ghost use Rattle.std.specs.Prelude.{List};
-    ghost use Rattle.round_robin.specs.declared.tables.EntryLine.{EntryLine};
+    ghost use Rattle.result_lines.specs.declared.tables.EntryLine.{EntryLine};
 
     ghost Value = { List EntryLine };
 

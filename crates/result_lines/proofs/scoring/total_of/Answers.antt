@@ -1,5 +1,5 @@
-use Rattle.round_robin.proofs.Summing.{summed_more}
-use Rattle.round_robin.proofs.scoring.total_of.Goals as goal
+use Rattle.result_lines.proofs.Summing.{summed_more}
+use Rattle.result_lines.proofs.scoring.total_of.Goals as goal
 
 pub loop-line-preserved : goal.loop-line-preserved
 loop-line-preserved c =

@@ -5,8 +5,8 @@ use Rattle.fixed_span.specs.declared.ordering.Verdict.{Verdict}
 use Rattle.fixed_span.specs.declared.ordering.Verdict.TheVariants as verdicts
 use Rattle.fixed_span.specs.Span.{Ends, point}
 use Rattle.fixed_span.specs.Verdict.{verdict}
-use Rattle.round_robin.specs.declared.ranking.Rank.{Rank}
-use Rattle.round_robin.specs.declared.ranking.Rank.TheVariants.{At, Undecided}
+use Rattle.result_lines.specs.declared.ranking.Rank.{Rank}
+use Rattle.result_lines.specs.declared.ranking.Rank.TheVariants.{At, Undecided}
 
 abbrev pub is_greater : Verdict → Bool
 is_greater verdicts.Less = false
