@@ -3,7 +3,7 @@ use Rattle.std.proofs.Common.{◌≡◌, ℕ, true, [], Some, Result, Ok, Err, r
 use Rattle.std.specs.Prelude.{◌↔◌}
 use Rattle.lab_ports.specs.Causes.{Rose}
 use Rattle.lab_ports.specs.Holding.{Grew, GrewByPart}
-use Rattle.lab_ports.specs.declared.refusal.Refusal.TheVariants.{NotBuilt}
+use Rattle.refusals.specs.declared.refusal.Refusal.TheVariants.{NotBuilt}
 use Rattle.axlab_core.specs.declared.status.Status.{Status}
 use Rattle.axlab_core.specs.declared.status.Status.TheVariants.{Answered, Denied, Usage, ReadFault, Refused, WriteFault, NoMemory}
 use Rattle.axlab_core.specs.declared.words.Form.TheVariants.{Drill, Unbuilt, Faulty}

@@ -4,8 +4,8 @@ use Rattle.std.specs.Prelude.{nat_lt, Result, Ok, Err, if◌then◌else◌}
 use Rattle.std.specs.List.{All}
 use Rattle.std.proofs.lemmas.Bool.{cases_lt, ltb-false}
 use Rattle.std.proofs.lemmas.List.{length-map, length_push, get_or-map, get_or_append_left, get_or_push}
-use Rattle.lab_ports.specs.declared.refusal.Refusal.{Refusal}
-use Rattle.lab_ports.specs.declared.refusal.Refusal.TheVariants.{TooManyTurns, TooMuchWork}
+use Rattle.refusals.specs.declared.refusal.Refusal.{Refusal}
+use Rattle.refusals.specs.declared.refusal.Refusal.TheVariants.{TooManyTurns, TooMuchWork}
 use Rattle.player_core.specs.declared.bench.PlugNote.{PlugNote}
 use Rattle.player_core.specs.State.{Lasting}
 use Rattle.player_core.specs.Fits.{SidesFit}

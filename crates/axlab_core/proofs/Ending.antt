@@ -7,7 +7,7 @@ use Rattle.player_core.specs.declared.bench.PlugNote.{PlugNote}
 use Rattle.player_core.specs.Bench.{notes_of}
 use Rattle.lab_ports.specs.Causes.{Rose}
 use Rattle.lab_ports.specs.Holding.{Grew, GrewByPart}
-use Rattle.lab_ports.specs.declared.refusal.Refusal.TheVariants.{NotBuilt}
+use Rattle.refusals.specs.declared.refusal.Refusal.TheVariants.{NotBuilt}
 use Rattle.lab_file.specs.declared.command.Command.{Command}
 use Rattle.lab_file.specs.declared.command.Command.TheVariants as commands
 use Rattle.axlab_core.specs.declared.load.LoadError.{LoadError}

@@ -4,12 +4,12 @@ use Rattle.std.proofs.lemmas.List.{append_assoc, length-take-le, length-set, len
 use Rattle.std.proofs.lemmas.List.Elements.{All-push}
 use Rattle.std.proofs.Math.Seq.{get_or-append_seam}
 use Rattle.player_core.specs.declared.bench.PlugNote.{PlugNote}
-use Rattle.lab_ports.specs.declared.refusal.Refusal.{Refusal}
-use Rattle.lab_ports.specs.declared.refusal.FileError.{FileError}
-use Rattle.lab_ports.specs.declared.refusal.FileError.TheVariants as file
+use Rattle.refusals.specs.declared.refusal.Refusal.{Refusal}
+use Rattle.refusals.specs.declared.refusal.FileError.{FileError}
+use Rattle.refusals.specs.declared.refusal.FileError.TheVariants as file
 use Rattle.lab_ports.specs.Causes.{Rose}
 use Rattle.lab_ports.specs.Holding.{Holding, IsFront, IsMissing}
-use Rattle.lab_keys.specs.Refusing.{IsErrorOf}
+use Rattle.refusals.specs.Refusing.{IsErrorOf}
 use Rattle.strategy_file.specs.declared.draft.Draft.{Draft}
 use Rattle.strategy_file.specs.declared.draft.Draft.TheVariants.{Ready, FromFile}
 use Rattle.player_core.specs.Sheet.{SheetData}
@@ -26,7 +26,7 @@ use Rattle.axlab_core.specs.declared.load.LoadError.{LoadError}
 use Rattle.axlab_core.specs.declared.load.LoadError.TheVariants.{Unread, Refused, NoMemory}
 use Rattle.axlab_core.specs.Loading.{Stop, Missing, Refuses, ◌>>=◌, or_missing, or_stop, file_source, part_source, machine_source, lab_read, draft_read, entries_read, Loads, IsTold}
 use Rattle.axlab_core.specs.Steps.{of_file, ReadFails, Explains, IsReadyDraft, IsReadyEntry, ReadsLab, Attaches, AttachStops, AttachesAll, AttachAllStops, ReadsSecond, LoadsInput}
-use Rattle.lab_ports.specs.declared.refusal.FileRole.{FileRole}
+use Rattle.refusals.specs.declared.refusal.FileRole.{FileRole}
 use Rattle.axlab_core.specs.declared.second.Second.{Second}
 use Rattle.axlab_core.specs.declared.second.Second.TheVariants.{Alone}
 use Rattle.axlab_core.specs.Input.{OfLab, longest, second_for, second_of, second_read, second_role}

@@ -2,7 +2,7 @@
 use Rattle.std.specs.Prelude.{◌≡◌, ◌⊎◌, ℕ, [], Some, Result, Ok, Err}
 use Rattle.lab_ports.specs.Causes.{Rose}
 use Rattle.lab_ports.specs.Holding.{Holding}
-use Rattle.lab_ports.specs.declared.refusal.Refusal.{Refusal}
+use Rattle.refusals.specs.declared.refusal.Refusal.{Refusal}
 use Rattle.axlab_core.specs.Input.{Call, Input, input_by}
 use Rattle.axlab_core.specs.Loading.{Stop, Missing, Refuses}
 use Rattle.axlab_core.specs.Outcome.{status_of}

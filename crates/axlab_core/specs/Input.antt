@@ -3,10 +3,10 @@ use Rattle.std.specs.Prelude.{◌≡◌, ℕ, nat_lt, List, length, Option, Some
 use Rattle.player_core.specs.State.{Lasting, players_of}
 use Rattle.player_core.specs.declared.bench.PlugNote.{PlugNote}
 use Rattle.player_core.specs.Bench.{notes_of}
-use Rattle.lab_ports.specs.declared.refusal.FileRole.{FileRole}
-use Rattle.lab_ports.specs.declared.refusal.FileRole.TheVariants.{Rows, Cert}
-use Rattle.lab_ports.specs.declared.refusal.Refusal.{Refusal}
-use Rattle.lab_ports.specs.declared.refusal.Refusal.TheVariants.{TooLong, NotBuilt}
+use Rattle.refusals.specs.declared.refusal.FileRole.{FileRole}
+use Rattle.refusals.specs.declared.refusal.FileRole.TheVariants.{Rows, Cert}
+use Rattle.refusals.specs.declared.refusal.Refusal.{Refusal}
+use Rattle.refusals.specs.declared.refusal.Refusal.TheVariants.{TooLong, NotBuilt}
 use Rattle.lab_ports.specs.Holding.{Holding}
 use Rattle.lab_file.specs.declared.command.Command.{Command}
 use Rattle.lab_file.specs.declared.command.Command.TheVariants as commands

@@ -1,7 +1,7 @@
 -- The lab that the files of a library make, and the one order in which its faults are told.
 use Rattle.std.specs.Prelude.{◌≡◌, ℕ, ◌+◌, true, is_some, List, [], ◌∷◌, ◌++◌, length, take, get_or, Option, Some, None, option_map, Result, Ok, Err}
 use Rattle.player_core.specs.declared.bench.PlugNote.{PlugNote}
-use Rattle.lab_ports.specs.declared.refusal.Refusal.{Refusal}
+use Rattle.refusals.specs.declared.refusal.Refusal.{Refusal}
 use Rattle.lab_ports.specs.Holding.{Holding, file_of}
 use Rattle.strategy_file.specs.declared.draft.Draft.{Draft}
 use Rattle.strategy_file.specs.declared.draft.Draft.TheVariants.{Ready, FromFile}

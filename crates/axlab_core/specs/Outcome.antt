@@ -12,7 +12,7 @@ use Rattle.axlab_core.specs.Words.{needs_lab}
 use Rattle.axlab_core.specs.World.{World}
 use Rattle.axlab_core.specs.declared.status.Status.{Status}
 use Rattle.axlab_core.specs.declared.status.Status.TheVariants.{Answered, Denied, Usage, ReadFault, Refused, WriteFault, NoMemory}
-use Rattle.lab_ports.specs.declared.refusal.Refusal.{Refusal}
+use Rattle.refusals.specs.declared.refusal.Refusal.{Refusal}
 
 abbrev pub number_of : Status → ℕ
 number_of Answered = 0

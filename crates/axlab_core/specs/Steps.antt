@@ -1,8 +1,8 @@
 -- How a lab is loaded, read by read.
 use Rattle.std.specs.Prelude.{◌≡◌, ◌⊎◌, ℕ, All, List, [], Option, Result, Ok, Err}
 use Rattle.player_core.specs.declared.bench.PlugNote.{PlugNote}
-use Rattle.lab_ports.specs.declared.refusal.FileError.{FileError}
-use Rattle.lab_ports.specs.declared.refusal.FileError.TheVariants as file
+use Rattle.refusals.specs.declared.refusal.FileError.{FileError}
+use Rattle.refusals.specs.declared.refusal.FileError.TheVariants as file
 use Rattle.lab_ports.specs.Holding.{Holding}
 use Rattle.strategy_file.specs.declared.draft.Draft.{Draft}
 use Rattle.strategy_file.specs.declared.draft.Draft.TheVariants.{Ready, FromFile}

@@ -5,7 +5,7 @@ ghost use Rattle.player_core.specs.Fits.{Fits};
 ghost use Rattle.player_core.specs.Bench.{KeepsBench, notes_of};
 ghost use Rattle.lab_ports.specs.Causes.{Rose};
 ghost use Rattle.lab_ports.specs.Holding.{Grew, GrewByPart};
-ghost use Rattle.lab_ports.specs.declared.refusal.Refusal.TheVariants.{NotBuilt};
+ghost use Rattle.refusals.specs.declared.refusal.Refusal.TheVariants.{NotBuilt};
 ghost use Rattle.axlab_core.specs.Complete.{MustAnswer, MustDrill, MustMiss, MustRefuse, MustStop};
 ghost use Rattle.axlab_core.specs.Input.{Comes, OfLab, OfWords, call_of};
 ghost use Rattle.axlab_core.specs.Loading.{Refuses, Denies};

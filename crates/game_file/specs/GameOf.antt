@@ -3,13 +3,13 @@ use Rattle.std.specs.Prelude.{ℕ, ◌/◌, ◌==◌, Option, Some, None, Result
 use Rattle.toml.specs.Data.{Members}
 use Rattle.history_model.specs.Game.{Payoffs}
 use Rattle.history_model.specs.Noise.{FlipRate, no_noise}
-use Rattle.lab_ports.specs.declared.place.KeyName.{KeyName}
-use Rattle.lab_ports.specs.declared.place.KeyName.TheVariants.{Game, Noise, R, S, T, P, E, N}
-use Rattle.lab_ports.specs.declared.place.Place.{Place}
-use Rattle.lab_ports.specs.declared.place.TableName.TheVariants as tables
-use Rattle.lab_ports.specs.declared.refusal.Refusal.{Refusal}
-use Rattle.lab_ports.specs.declared.refusal.Refusal.TheVariants.{Version}
-use Rattle.lab_keys.specs.Refusing.{◌>>=◌}
+use Rattle.refusals.specs.declared.place.KeyName.{KeyName}
+use Rattle.refusals.specs.declared.place.KeyName.TheVariants.{Game, Noise, R, S, T, P, E, N}
+use Rattle.refusals.specs.declared.place.Place.{Place}
+use Rattle.refusals.specs.declared.place.TableName.TheVariants as tables
+use Rattle.refusals.specs.declared.refusal.Refusal.{Refusal}
+use Rattle.refusals.specs.declared.refusal.Refusal.TheVariants.{Version}
+use Rattle.refusals.specs.Refusing.{◌>>=◌}
 use Rattle.lab_keys.specs.Keys.{optional_table_at, whole_at}
 
 -- keys of the top of the file, of the game and of the noise

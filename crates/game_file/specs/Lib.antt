@@ -1,3 +1,3 @@
 pub mod GameOf
 pub use Rattle.lab_keys.specs.Keys
-pub use Rattle.lab_keys.specs.Refusing
+pub use Rattle.refusals.specs.Refusing

@@ -7,7 +7,7 @@ ghost use Rattle.game_file.specs.GameOf.{usual_game, payoff_at, payoffs_in, flip
 
 use history_model::{Game, Noise};
 use lab_keys::{optional_table_at, whole_at};
-use lab_ports::{KeyName, Place, Refusal, TableName};
+use refusals::{KeyName, Place, Refusal, TableName};
 use toml::Table;
 
 // The greatest payoff.

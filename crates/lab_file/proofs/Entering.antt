@@ -5,10 +5,10 @@ use Rattle.toml.specs.Data.{Members}
 use Rattle.toml.specs.View.{view, items_view}
 use Rattle.history_model.specs.Noise.{FlipRate}
 use Rattle.player_core.specs.declared.bench.PlugNote.{PlugNote}
-use Rattle.lab_ports.specs.declared.place.Place.{Place}
-use Rattle.lab_ports.specs.declared.place.KeyName.TheVariants as key
+use Rattle.refusals.specs.declared.place.Place.{Place}
+use Rattle.refusals.specs.declared.place.KeyName.TheVariants as key
 use Rattle.lab_keys.specs.Keys.{table_of}
-use Rattle.lab_keys.specs.Refusing.{◌>>=◌}
+use Rattle.refusals.specs.Refusing.{◌>>=◌}
 use Rattle.lab_file.specs.declared.lab.Entry.{Entry}
 use Rattle.lab_file.specs.LabOf.{top, entry_of, entries_from}
 

@@ -10,10 +10,10 @@ use Rattle.history_model.specs.declared.moves.Move.{Move}
 use Rattle.history_model.specs.Noise.{FlipRate}
 use Rattle.player_core.specs.declared.bench.PlugNote.{PlugNote}
 use Rattle.player_core.specs.Sheet.{SheetData}
-use Rattle.lab_ports.specs.declared.refusal.Refusal.{Refusal}
-use Rattle.lab_ports.specs.declared.refusal.Refusal.TheVariants.{BadName, OutOfRange, Syntax, UnknownPlug}
-use Rattle.lab_ports.specs.declared.place.KeyName.TheVariants as key
-use Rattle.lab_keys.specs.Refusing.{◌>>=◌, or_refuse}
+use Rattle.refusals.specs.declared.refusal.Refusal.{Refusal}
+use Rattle.refusals.specs.declared.refusal.Refusal.TheVariants.{BadName, OutOfRange, Syntax, UnknownPlug}
+use Rattle.refusals.specs.declared.place.KeyName.TheVariants as key
+use Rattle.refusals.specs.Refusing.{◌>>=◌, or_refuse}
 use Rattle.lab_keys.specs.Keys as keys
 use Rattle.lab_keys.specs.Keys.{found_at, text_at, text_of, array_at, array_of, whole_at, wholes_at, item_count}
 use Rattle.machine_rows.specs.declared.transition.Transition.{Transition}

@@ -1,7 +1,7 @@
 -- A lab whose machine files are read one by one.
 use Rattle.std.specs.Prelude.{ℕ, ◌+◌, List, slice_set, Result, Ok}
-use Rattle.lab_ports.specs.declared.refusal.Refusal.{Refusal}
-use Rattle.lab_keys.specs.Refusing.{◌>>=◌}
+use Rattle.refusals.specs.declared.refusal.Refusal.{Refusal}
+use Rattle.refusals.specs.Refusing.{◌>>=◌}
 use Rattle.strategy_file.specs.declared.draft.Draft.{Draft}
 use Rattle.strategy_file.specs.declared.draft.Draft.TheVariants.{Ready, FromFile}
 use Rattle.strategy_file.specs.CsvRows.{csv_sheet}

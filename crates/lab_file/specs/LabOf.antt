@@ -8,14 +8,14 @@ use Rattle.toml.specs.Parse.{parse_document}
 use Rattle.history_model.specs.Name.{is_name}
 use Rattle.history_model.specs.Noise.{FlipRate}
 use Rattle.player_core.specs.declared.bench.PlugNote.{PlugNote}
-use Rattle.lab_ports.specs.declared.refusal.FileRole.TheVariants.{Lab}
-use Rattle.lab_ports.specs.declared.refusal.Refusal.{Refusal}
-use Rattle.lab_ports.specs.declared.refusal.Refusal.TheVariants.{TooLong, Syntax, Version, WrongType, OutOfRange, BadName, DoubledName, UnknownEntry, DoubledEdge, NotBuilt}
-use Rattle.lab_ports.specs.declared.place.Place.{Place}
-use Rattle.lab_ports.specs.declared.place.KeyName.{KeyName}
-use Rattle.lab_ports.specs.declared.place.KeyName.TheVariants as key
-use Rattle.lab_ports.specs.declared.place.TableName.TheVariants as table
-use Rattle.lab_keys.specs.Refusing.{◌>>=◌, or_refuse}
+use Rattle.refusals.specs.declared.refusal.FileRole.TheVariants.{Lab}
+use Rattle.refusals.specs.declared.refusal.Refusal.{Refusal}
+use Rattle.refusals.specs.declared.refusal.Refusal.TheVariants.{TooLong, Syntax, Version, WrongType, OutOfRange, BadName, DoubledName, UnknownEntry, DoubledEdge, NotBuilt}
+use Rattle.refusals.specs.declared.place.Place.{Place}
+use Rattle.refusals.specs.declared.place.KeyName.{KeyName}
+use Rattle.refusals.specs.declared.place.KeyName.TheVariants as key
+use Rattle.refusals.specs.declared.place.TableName.TheVariants as table
+use Rattle.refusals.specs.Refusing.{◌>>=◌, or_refuse}
 use Rattle.lab_keys.specs.Keys.{found_at, value_at, text_at, array_at, table_of, whole_at, truth_at, optional_table_at, optional_pairs_at, pair_of, in_range, item_count}
 use Rattle.game_file.specs.GameOf.{game_of}
 use Rattle.strategy_file.specs.SheetOf.{at, draft_of}

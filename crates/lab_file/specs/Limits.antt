@@ -2,8 +2,8 @@
 use Rattle.std.specs.Prelude.{ℕ, ◌≡◌, ◌*◌, ◌&&◌, nat_lt, Bool, true, false, List, length, sum_by, All, Option, Some, None, Result, Ok, Err, if◌then◌else◌}
 use Rattle.std.specs.List.{list_any}
 use Rattle.player_core.specs.declared.bench.PlugNote.{PlugNote}
-use Rattle.lab_ports.specs.declared.refusal.Refusal.{Refusal}
-use Rattle.lab_ports.specs.declared.refusal.Refusal.TheVariants.{NoJob, TooManyTurns, TooMuchWork, NotBuilt}
+use Rattle.refusals.specs.declared.refusal.Refusal.{Refusal}
+use Rattle.refusals.specs.declared.refusal.Refusal.TheVariants.{NoJob, TooManyTurns, TooMuchWork, NotBuilt}
 use Rattle.lab_file.specs.declared.command.Command.{Command}
 use Rattle.lab_file.specs.declared.command.Command.TheVariants.{Match, Tournament}
 use Rattle.lab_file.specs.declared.lab.Entry.{Entry}

@@ -1,7 +1,7 @@
 //! The jobs of a lab.
 ghost use Rattle.std.specs.Prelude.{◌≡◌, ◌<◌, ◌≤◌, length, option_map, IfOk, IfSome};
 ghost use Rattle.toml.specs.View.{table_view};
-ghost use Rattle.lab_keys.specs.Refusing.{Gives, seen_by};
+ghost use Rattle.refusals.specs.Refusing.{Gives, seen_by};
 ghost use Rattle.lab_file.specs.Lab.{AreJobs, IsMatchJob};
 ghost use Rattle.lab_file.specs.LabOf.{top, place_of, place_named, place_at, match_of, match_at, has_unbuilt, jobs_of};
 
@@ -9,7 +9,7 @@ use crate::places::{in_job, top};
 use crate::tournament::{TournamentJob, tournament_at};
 use crate::{Entries, Entry};
 use lab_keys::{found_at, optional_table_at, text_at, whole_at};
-use lab_ports::{FileError, KeyName, Place, Refusal, TableName};
+use refusals::{FileError, KeyName, Place, Refusal, TableName};
 use std::alloc::Global;
 use toml::Table;
 

@@ -1,12 +1,12 @@
 //! A lab and its entries.
 ghost use Rattle.std.specs.Prelude.{◌≡◌, ◌↔◌, ◌<◌, ◌+◌, [], length, IsTrue, Ok, Some, slice_get, IfErr, OnErr, OnOk};
-ghost use Rattle.lab_keys.specs.Refusing.{IsErrorOf};
+ghost use Rattle.refusals.specs.Refusing.{IsErrorOf};
 ghost use Rattle.lab_file.specs.Lab.{IsLab, entry_at};
 ghost use Rattle.lab_file.specs.Attached.{attached, set_draft};
 
 use crate::Jobs;
 use history_model::{Game, Name, Noise};
-use lab_ports::FileError;
+use refusals::FileError;
 use std::alloc::Global;
 use std::marker::Model;
 use strategy_file::{Draft, read_machine_csv};

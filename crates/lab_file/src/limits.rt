@@ -9,7 +9,7 @@ use crate::pairs::played_at;
 use crate::rows::entry_rows;
 use crate::sure::entry_is_sure;
 use crate::{Command, Entries, Lab, MatchJob, TournamentJob};
-use lab_ports::Refusal;
+use refusals::Refusal;
 use player_core::PlugNote;
 
 // The most turns of a match that is sure, and of any other.

@@ -3,7 +3,7 @@ ghost use Rattle.std.specs.Prelude.{◌≡◌};
 ghost use Rattle.strategy_file.specs.SheetOf.{at};
 ghost use Rattle.lab_file.specs.LabOf.{top};
 
-use lab_ports::{KeyName, Place, TableName};
+use refusals::{KeyName, Place, TableName};
 
 /// A key of the top of the file.
 pub fn top(key: KeyName) -> Place

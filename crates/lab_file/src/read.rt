@@ -1,7 +1,7 @@
 //! Reads a lab file.
 ghost use Rattle.std.specs.Prelude.{◌≡◌};
 ghost use Rattle.toml.specs.View.{table_view};
-ghost use Rattle.lab_keys.specs.Refusing.{Gives};
+ghost use Rattle.refusals.specs.Refusing.{Gives};
 ghost use Rattle.lab_file.specs.LabOf.{version_at, lab_in, lab_of};
 
 use crate::Lab;
@@ -10,7 +10,7 @@ use crate::jobs::jobs_of;
 use crate::places::top;
 use game_file::read_game;
 use lab_keys::value_at;
-use lab_ports::{FileError, FileRole, KeyName, Refusal};
+use refusals::{FileError, FileRole, KeyName, Refusal};
 use player_core::PlugNote;
 use std::alloc::Global;
 use toml::Table;

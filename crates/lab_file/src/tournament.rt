@@ -2,7 +2,7 @@
 ghost use Rattle.std.specs.Prelude.{◌≡◌, ◌≢◌, ◌<◌, ◌≤◌, ◌*◌, ◌++◌, [], ◌∷◌, length, false, map, option_map, IfOk, IfSome};
 ghost use Rattle.std.specs.List.{list_any};
 ghost use Rattle.toml.specs.View.{view, table_view, array_view};
-ghost use Rattle.lab_keys.specs.Refusing.{Gives};
+ghost use Rattle.refusals.specs.Refusing.{Gives};
 ghost use Rattle.lab_file.specs.Lab.{AreEdges, IsTournamentJob};
 ghost use Rattle.lab_file.specs.LabOf.{is_doubled, edge_of, edges_from, edges_if, edges_at, tournament_of, tournament_if, tournament_at};
 ghost use Rattle.lab_file.specs.Tournament.{joins};
@@ -11,7 +11,7 @@ use crate::Entries;
 use crate::jobs::{MOST_TURNS, place_named};
 use crate::places::{in_job, top};
 use lab_keys::{optional_pairs_at, optional_table_at, pair_of, truth_at, whole_at};
-use lab_ports::{FileError, KeyName, Refusal, TableName};
+use refusals::{FileError, KeyName, Refusal, TableName};
 use std::alloc::Global;
 use std::marker::Model;
 use toml::value::Array;

@@ -3,8 +3,8 @@ use Rattle.std.proofs.Common.{◌≡◌, ◌≢◌, List, [], ◌∷◌, length,
 use Rattle.toml.specs.declared.value.Value.{Value}
 use Rattle.toml.specs.Data.{item, no_items}
 use Rattle.toml.specs.View.{view, items_view}
-use Rattle.lab_ports.specs.declared.place.Place.{Place}
-use Rattle.lab_ports.specs.declared.refusal.Refusal.TheVariants.{OutOfRange}
+use Rattle.refusals.specs.declared.place.Place.{Place}
+use Rattle.refusals.specs.declared.refusal.Refusal.TheVariants.{OutOfRange}
 use Rattle.lab_keys.specs.Keys.{pair_in}
 
 -- the two items of a list of two

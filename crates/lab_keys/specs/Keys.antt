@@ -3,11 +3,11 @@
 use Rattle.std.specs.Prelude.{ℕ, ℤ, pos, negsuc, ◌+◌, ◌==◌, ◌&&◌, Bool, true, false, nat_le, is_some, List, [], ◌∷◌, Option, Some, None, option_map, option_and_then, Result, Ok, Err, if◌then◌else◌}
 use Rattle.std.specs.Option.{option_map_or}
 use Rattle.toml.specs.Data.{Data, Members, Items, no_items, item, get_member, as_integer, as_str, as_bool, as_array, as_table}
-use Rattle.lab_ports.specs.declared.place.Place.{Place}
-use Rattle.lab_ports.specs.declared.refusal.Refusal.{Refusal}
-use Rattle.lab_ports.specs.declared.refusal.Refusal.TheVariants.{MissingKey, WrongType, OutOfRange}
-use Rattle.lab_keys.specs.Refusing.{◌>>=◌, or_refuse}
-use Rattle.lab_ports.specs.KeyWord.{key_word}
+use Rattle.refusals.specs.declared.place.Place.{Place}
+use Rattle.refusals.specs.declared.refusal.Refusal.{Refusal}
+use Rattle.refusals.specs.declared.refusal.Refusal.TheVariants.{MissingKey, WrongType, OutOfRange}
+use Rattle.refusals.specs.Refusing.{◌>>=◌, or_refuse}
+use Rattle.refusals.specs.KeyWord.{key_word}
 
 -- what stands at the key, if anything does
 abbrev pub found_at : Place → Members → Option Data

@@ -2,11 +2,11 @@
 ghost use Rattle.std.specs.Prelude.{◌≡◌, ℕ, ◌≤◌, ◌<◌, length, option_map, slice_index, IfOk};
 ghost use Rattle.toml.specs.Data.{get_member};
 ghost use Rattle.toml.specs.View.{view, table_view, array_view};
-ghost use Rattle.lab_keys.specs.Refusing.{Gives, seen_by};
+ghost use Rattle.refusals.specs.Refusing.{Gives, seen_by};
 ghost use Rattle.lab_keys.specs.Keys.{found_at, value_at, text_at, array_at, table_at, whole_at, wholes_at, truth_at, optional_table_at, optional_pairs_at};
 
 use crate::values::{array_of, pairs_in, table_of, text_of, truth_of, whole_of, wholes_of};
-use lab_ports::{FileError, Place, Refusal};
+use refusals::{FileError, Place, Refusal};
 use std::alloc::Global;
 use toml::value::Array;
 use toml::{Table, Value};

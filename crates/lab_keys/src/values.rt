@@ -1,10 +1,10 @@
 //! Values by their types and ranges. Each call takes the place of the value, which refusals name.
 ghost use Rattle.std.specs.Prelude.{◌≡◌, ℕ, ◌≤◌, ◌<◌, length, slice_index, option_map, IfOk, IfSome};
 ghost use Rattle.toml.specs.View.{view, table_view, array_view};
-ghost use Rattle.lab_keys.specs.Refusing.{Gives, seen_by};
+ghost use Rattle.refusals.specs.Refusing.{Gives, seen_by};
 ghost use Rattle.lab_keys.specs.Keys.{text_of, truth_of, array_of, table_of, whole_of, in_range, are_whole, number_within, numbers_within, wholes_in, wholes_of, are_texts, are_text_lists, is_pair, are_pairs, pairs_in, pair_in, pair_of};
 
-use lab_ports::{FileError, Place, Refusal};
+use refusals::{FileError, Place, Refusal};
 use std::alloc::{AllocError, Global};
 use toml::value::Array;
 use toml::{Table, Value};

@@ -2,9 +2,9 @@
 use Rattle.std.proofs.Common.{arith, ◌≡◌, ℕ, suc, zero, ◌+◌, ◌<◌, List, [], ◌∷◌, ◌++◌, Option, length, take, drop, get_or, ap, refl, append_assoc, append-nil, length-append}
 use Rattle.std.proofs.lemmas.List.{take-append-le}
 use Rattle.std.proofs.Math.Seq.{take-append-add}
-use Rattle.lab_ports.specs.declared.piece.Piece.{Piece}
+use Rattle.refusals.specs.declared.piece.Piece.{Piece}
 use Rattle.lab_ports.specs.Holding.{Grew, GrewByPart}
-use Rattle.lab_ports.specs.Piece.{piece_text, joined}
+use Rattle.refusals.specs.Piece.{piece_text, joined}
 use Rattle.lab_ports.proofs.Grown.{grew_more}
 
 -- the pieces before a place, the piece there and those behind it
@@ -47,9 +47,3 @@ pub joined_part : (a b c : Option (List ℕ)) (ps : List Piece) (i : ℕ) (d : P
     → Grew a b (joined (take i ps)) → GrewByPart b c (piece_text (get_or ps i d)) → GrewByPart a c (joined ps)
 joined_part a b c ps i d h first part =
     rw (joined_split ps i d h) (grew_into a b c _ _ _ first part)
-
--- six pieces, taken apart
-pub joined_six : (ps : List Piece) (x : Piece) (more : List ℕ) → length ps ≡ 6
-    → piece_text (get_or ps 0 x) ++ (piece_text (get_or ps 1 x) ++ (piece_text (get_or ps 2 x) ++ (piece_text (get_or ps 3 x) ++ (piece_text (get_or ps 4 x) ++ (piece_text (get_or ps 5 x) ++ more))))) ≡ joined ps ++ more
-joined_six (a ∷ b ∷ c ∷ d ∷ e ∷ f ∷ []) x more h = simp (append_assoc, append-nil) refl
-joined_six _ x more h = absurd (omega (arith, h))

@@ -2,19 +2,11 @@
 ghost use Rattle.std.specs.Prelude.{◌≡◌, ◌≤◌, [], OnOk, OnErr, IsOk};
 ghost use Rattle.lab_ports.specs.Causes.{Rose};
 ghost use Rattle.lab_ports.specs.Holding.{Grew, GrewByPart};
-ghost use Rattle.lab_ports.specs.Piece.{piece_text, joined};
+ghost use Rattle.refusals.specs.Piece.{piece_text, joined};
 
 use crate::{Sink, SinkFailed, send};
 use itoa::Buffer;
-
-/// A piece of a text.
-#[derive(Clone, Copy, Debug, PartialEq, Eq)]
-pub enum Piece {
-    /// Words, as they are.
-    Text(&'static str),
-    /// A number, in decimal digits.
-    Number(u32),
-}
+use refusals::Piece;
 
 fn send_piece<S: Sink>(sink: &mut S, piece: &Piece) -> Result<(), SinkFailed>
     ensures sent { OnOk result (Grew (S.taken sink.old) (S.taken sink.new) (piece_text piece.now)) }

@@ -11,8 +11,8 @@ use Rattle.indexmap.specs.IndexSet.{insert_key}
 use Rattle.history_model.specs.declared.moves.Move.{Move}
 use Rattle.history_model.specs.declared.moves.Move.TheVariants.{C, D}
 use Rattle.player_core.specs.Sheet.{SheetData, digit}
-use Rattle.lab_ports.specs.declared.refusal.Refusal.{Refusal}
-use Rattle.lab_keys.specs.Refusing.{◌>>=◌}
+use Rattle.refusals.specs.declared.refusal.Refusal.{Refusal}
+use Rattle.refusals.specs.Refusing.{◌>>=◌}
 use Rattle.machine_rows.specs.declared.transition.Transition.{Transition}
 use Rattle.machine_rows.specs.declared.transition.Exits.{Exits}
 use Rattle.machine_rows.specs.Rows.{leaves, same_move, with_states, states_of, exits_of, with_row, with_rows, number_of, weights_of, numbers_of, exit_weight, exit_number, finished, all_exits}

@@ -9,7 +9,7 @@ use Rattle.std.specs.List.{list_any, IsDistinct}
 use Rattle.indexmap.specs.IndexSet.{insert_key}
 use Rattle.machine_rows.specs.declared.transition.Transition.{Transition}
 use Rattle.machine_rows.specs.declared.transition.Exits.{Exits}
-use Rattle.lab_ports.specs.declared.refusal.Refusal.TheVariants.{BadRows, TooManyRows}
+use Rattle.refusals.specs.declared.refusal.Refusal.TheVariants.{BadRows, TooManyRows}
 use Rattle.history_model.specs.declared.moves.Move.{Move}
 use Rattle.machine_rows.specs.Rows.{exits_of, leaves, with_row, with_states, states_of}
 use Rattle.machine_rows.specs.RowsRead.{no_exits, exit_on, with_exit, exit_count, AreExits, IsHeld}

@@ -5,9 +5,9 @@ use Rattle.indexmap.specs.IndexSet.{insert_key}
 use Rattle.history_model.specs.declared.moves.Move.{Move}
 use Rattle.history_model.specs.declared.moves.Move.TheVariants.{C, D}
 use Rattle.player_core.specs.Sheet.{SheetData}
-use Rattle.lab_ports.specs.declared.refusal.Refusal.{Refusal}
-use Rattle.lab_ports.specs.declared.refusal.Refusal.TheVariants.{BadRows, TooManyRows}
-use Rattle.lab_keys.specs.Refusing.{◌>>=◌}
+use Rattle.refusals.specs.declared.refusal.Refusal.{Refusal}
+use Rattle.refusals.specs.declared.refusal.Refusal.TheVariants.{BadRows, TooManyRows}
+use Rattle.refusals.specs.Refusing.{◌>>=◌}
 use Rattle.machine_rows.specs.declared.transition.Transition.{Transition}
 use Rattle.machine_rows.specs.declared.transition.Exits.{Exits}
 use Rattle.machine_rows.specs.MachineSheet.{weight_of, machine_with}

@@ -1,6 +1,6 @@
 //! The rows of a machine, read one by one, and the sheet that they make.
 ghost use Rattle.std.specs.Prelude.{◌≡◌, ◌+◌, ◌<◌, [], length, Some, IfOk};
-ghost use Rattle.lab_keys.specs.Refusing.{Gives};
+ghost use Rattle.refusals.specs.Refusing.{Gives};
 ghost use Rattle.machine_rows.specs.Rows.{with_row, finished};
 
 use crate::sheet::machine_with;
@@ -8,7 +8,7 @@ use crate::states::States;
 use crate::transition::{Transition, exit_on};
 use history_model::Move;
 use indexmap::IndexSet;
-use lab_ports::{FileError, Refusal};
+use refusals::{FileError, Refusal};
 use player_core::Sheet;
 use std::alloc::{AllocError, Global};
 use std::marker::Model;

@@ -6,9 +6,9 @@ use Rattle.std.specs.Str.Parse.{digits_value}
 use Rattle.csv.specs.Reading.{default_config, records, strip_bom}
 use Rattle.csv.specs.Records.{field_at}
 use Rattle.player_core.specs.Sheet.{SheetData}
-use Rattle.lab_ports.specs.declared.refusal.FileRole.TheVariants.{Machine}
-use Rattle.lab_ports.specs.declared.refusal.Refusal.{Refusal}
-use Rattle.lab_ports.specs.declared.refusal.Refusal.TheVariants.{BadRows, TooLong}
+use Rattle.refusals.specs.declared.refusal.FileRole.TheVariants.{Machine}
+use Rattle.refusals.specs.declared.refusal.Refusal.{Refusal}
+use Rattle.refusals.specs.declared.refusal.Refusal.TheVariants.{BadRows, TooLong}
 use Rattle.machine_rows.specs.declared.transition.Transition.{Transition}
 use Rattle.machine_rows.specs.Rows.{machine_sheet}
 use Rattle.strategy_file.specs.declared.draft.MachineFile.{MachineFile}

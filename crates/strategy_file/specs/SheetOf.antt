@@ -4,13 +4,13 @@ use Rattle.toml.specs.Data.{Data, Members}
 use Rattle.history_model.specs.declared.moves.Move.{Move}
 use Rattle.player_core.specs.declared.bench.PlugNote.{PlugNote}
 use Rattle.player_core.specs.Sheet.{SheetData}
-use Rattle.lab_ports.specs.declared.place.KeyName.{KeyName}
-use Rattle.lab_ports.specs.declared.place.KeyName.TheVariants.{Kind, Den, Opening, Weights, Start, Rows, File, Own, Other, First, Table, Plug}
-use Rattle.lab_ports.specs.declared.place.Place.{Place}
-use Rattle.lab_ports.specs.declared.place.TableName.TheVariants.{Entry}
-use Rattle.lab_ports.specs.declared.refusal.Refusal.{Refusal}
-use Rattle.lab_ports.specs.declared.refusal.Refusal.TheVariants.{MissingKey, OutOfRange, BadName, UnknownKind, UnknownPlug}
-use Rattle.lab_keys.specs.Refusing.{◌>>=◌, or_refuse}
+use Rattle.refusals.specs.declared.place.KeyName.{KeyName}
+use Rattle.refusals.specs.declared.place.KeyName.TheVariants.{Kind, Den, Opening, Weights, Start, Rows, File, Own, Other, First, Table, Plug}
+use Rattle.refusals.specs.declared.place.Place.{Place}
+use Rattle.refusals.specs.declared.place.TableName.TheVariants.{Entry}
+use Rattle.refusals.specs.declared.refusal.Refusal.{Refusal}
+use Rattle.refusals.specs.declared.refusal.Refusal.TheVariants.{MissingKey, OutOfRange, BadName, UnknownKind, UnknownPlug}
+use Rattle.refusals.specs.Refusing.{◌>>=◌, or_refuse}
 use Rattle.lab_keys.specs.Keys.{found_at, text_at, text_of, array_of, whole_at, wholes_at}
 use Rattle.strategy_file.specs.declared.draft.Draft.{Draft}
 use Rattle.strategy_file.specs.declared.draft.Draft.TheVariants.{Ready, FromFile}

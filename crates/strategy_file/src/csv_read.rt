@@ -1,12 +1,12 @@
 //! Reads the records of a file that is held as bytes.
 ghost use Rattle.std.specs.Prelude.{◌≡◌, ◌<◌, ◌∷◌, [], length, true, if◌then◌else◌, IfOk, IfErr};
-ghost use Rattle.lab_ports.specs.declared.refusal.FileError.TheVariants.{NoMemory};
+ghost use Rattle.refusals.specs.declared.refusal.FileError.TheVariants.{NoMemory};
 ghost use Rattle.csv.specs.Reading.{default_config, has_failed, records, strip_bom};
 ghost use Rattle.csv.specs.Records.{fields_of};
 ghost use Rattle.strategy_file.specs.CsvRead.{IsReading, bytes_left, records_left};
 
 use csv::{ByteRecord, Reader, ReaderBuilder};
-use lab_ports::FileError;
+use refusals::FileError;
 use std::alloc::Global;
 
 /// A reader of the records of a file, the first of which is none apart from the others. They may have

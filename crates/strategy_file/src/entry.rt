@@ -2,8 +2,8 @@
 ghost use Rattle.std.specs.Prelude.{◌≡◌, ◌+◌, ◌≤◌, IfOk, IfSome};
 ghost use Rattle.toml.specs.View.{view, table_view};
 ghost use Rattle.history_model.specs.Name.{IsName};
-ghost use Rattle.lab_keys.specs.Refusing.{Gives};
-ghost use Rattle.lab_ports.specs.declared.place.KeyName.TheVariants.{Rows, File};
+ghost use Rattle.refusals.specs.Refusing.{Gives};
+ghost use Rattle.refusals.specs.declared.place.KeyName.TheVariants.{Rows, File};
 ghost use Rattle.lab_keys.specs.Keys.{found_at, text_at, whole_at};
 ghost use Rattle.strategy_file.specs.SheetOf.{at, vector_of, machine_in_lab, machine_in_file, machine_from, machine_of, table_weights, table_of, plug_named, plug_of, draft_of_kind, draft_of};
 
@@ -12,7 +12,7 @@ use crate::toml_rows::{LAST_STATE, machine_sheet, move_of};
 use crate::{Draft, FileName, MachineFile};
 use history_model::{Move, Name};
 use lab_keys::{array_of, found_at, text_at, text_of, whole_at, wholes_at};
-use lab_ports::{FileError, KeyName, Place, Refusal, TableName};
+use refusals::{FileError, KeyName, Place, Refusal, TableName};
 use player_core::{PlugNote, Sheet};
 use std::alloc::Global;
 use toml::{Table, Value};

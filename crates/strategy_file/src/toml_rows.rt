@@ -1,13 +1,13 @@
 //! Machine rows as they stand in a lab file.
 ghost use Rattle.std.specs.Prelude.{◌≡◌};
 ghost use Rattle.toml.specs.View.{view, array_view};
-ghost use Rattle.lab_keys.specs.Refusing.{Gives};
+ghost use Rattle.refusals.specs.Refusing.{Gives};
 ghost use Rattle.machine_rows.specs.Rows.{machine_sheet};
 ghost use Rattle.strategy_file.specs.TomlRows.{move_of, move_in, row_of, row_in, rows_in};
 
 use history_model::Move;
 use lab_keys::number_within;
-use lab_ports::{FileError, Refusal};
+use refusals::{FileError, Refusal};
 use machine_rows::{MachineRows, Transition};
 use player_core::Sheet;
 use std::alloc::Global;

@@ -1,6 +1,6 @@
 use Rattle.std.proofs.Common.{◌≤◌, take}
 use Rattle.lab_ports.specs.Holding.{Grew}
-use Rattle.lab_ports.specs.Piece.{joined}
+use Rattle.refusals.specs.Piece.{joined}
 use Rattle.lab_ports.proofs.piece.send_pieces.Given as goal
 
 abbrev pub invariant-loop-piece : goal.invariant-loop-piece

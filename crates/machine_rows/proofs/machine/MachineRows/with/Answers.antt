@@ -1,6 +1,6 @@
 use Rattle.std.proofs.Common.{◌≡◌, ◌+◌, true, false, slice_get, Some, Ok, Err, subst, length, arith}
 use Rattle.std.specs.List.{list_any}
-use Rattle.lab_ports.specs.declared.refusal.Refusal.TheVariants.{BadRows, TooManyRows}
+use Rattle.refusals.specs.declared.refusal.Refusal.TheVariants.{BadRows, TooManyRows}
 use Rattle.machine_rows.specs.Rows.{leaves, with_row}
 use Rattle.machine_rows.specs.RowsRead.{RowsRead}
 use Rattle.machine_rows.proofs.Exits.{number_kept}

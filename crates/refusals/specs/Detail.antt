@@ -1,15 +1,15 @@
 -- The line that tells a refusal.
 use Rattle.std.specs.Prelude.{ℕ, ◌==◌, List, [], ◌++◌, codes, decimal, if◌then◌else◌}
-use Rattle.lab_ports.specs.declared.place.Place.{Place}
-use Rattle.lab_ports.specs.declared.refusal.FileRole.{FileRole}
-use Rattle.lab_ports.specs.declared.refusal.FileRole.TheVariants.{Lab, Machine, Rows, Cert}
-use Rattle.lab_ports.specs.declared.refusal.RowCause.{RowCause}
-use Rattle.lab_ports.specs.declared.refusal.RowCause.TheVariants.{BadLine, WrongPair, BadMark}
-use Rattle.lab_ports.specs.declared.refusal.Refusal.{Refusal}
-use Rattle.lab_ports.specs.declared.refusal.Refusal.TheVariants.{TooLong, Syntax, Version, MissingKey, WrongType, OutOfRange, BadName, DoubledName, UnknownKind, BadRows, UnknownPlug, TooManyRows, NoJob, UnknownEntry, TooManyTurns, TooMuchWork, NotSure, NoFitness, BadBoard, DoubledEdge, BadCheckpoint, BadCertificate, NotBuilt}
-use Rattle.lab_ports.specs.KeyWord.{key_word}
-use Rattle.lab_ports.specs.Refusal.{number_of, name_of}
-use Rattle.lab_ports.specs.TableWord.{table_word}
+use Rattle.refusals.specs.declared.place.Place.{Place}
+use Rattle.refusals.specs.declared.refusal.FileRole.{FileRole}
+use Rattle.refusals.specs.declared.refusal.FileRole.TheVariants.{Lab, Machine, Rows, Cert}
+use Rattle.refusals.specs.declared.refusal.RowCause.{RowCause}
+use Rattle.refusals.specs.declared.refusal.RowCause.TheVariants.{BadLine, WrongPair, BadMark}
+use Rattle.refusals.specs.declared.refusal.Refusal.{Refusal}
+use Rattle.refusals.specs.declared.refusal.Refusal.TheVariants.{TooLong, Syntax, Version, MissingKey, WrongType, OutOfRange, BadName, DoubledName, UnknownKind, BadRows, UnknownPlug, TooManyRows, NoJob, UnknownEntry, TooManyTurns, TooMuchWork, NotSure, NoFitness, BadBoard, DoubledEdge, BadCheckpoint, BadCertificate, NotBuilt, NotVector}
+use Rattle.refusals.specs.KeyWord.{key_word}
+use Rattle.refusals.specs.Refusal.{number_of, name_of}
+use Rattle.refusals.specs.TableWord.{table_word}
 
 -- which file it is
 abbrev pub role_detail : FileRole → List ℕ
@@ -66,6 +66,7 @@ detail_of (DoubledEdge edge) = codes " edge " ++ decimal edge
 detail_of (BadCheckpoint line cause) = line_detail line cause
 detail_of (BadCertificate line) = codes " line " ++ decimal line
 detail_of NotBuilt = []
+detail_of (NotVector entry) = entry_detail entry
 
 -- the whole line
 abbrev pub refusal_text : Refusal → List ℕ

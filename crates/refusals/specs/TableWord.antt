@@ -1,7 +1,7 @@
 -- The words of the lab file's tables.
 use Rattle.std.specs.Prelude.{List, ℕ, codes}
-use Rattle.lab_ports.specs.declared.place.TableName.{TableName}
-use Rattle.lab_ports.specs.declared.place.TableName.TheVariants.{Top, Game, Noise, Entry, Match, Tournament, Rota, Board, Moran, Best, Mean, Certificate}
+use Rattle.refusals.specs.declared.place.TableName.{TableName}
+use Rattle.refusals.specs.declared.place.TableName.TheVariants.{Top, Game, Noise, Entry, Match, Tournament, Rota, Board, Moran, Best, Mean, Certificate, Relation, Ending, Stable}
 
 -- the word of a table; `top` is the file itself, outside all tables
 abbrev pub table_word : TableName → List ℕ
@@ -17,3 +17,6 @@ table_word Moran = codes "moran"
 table_word Best = codes "best"
 table_word Mean = codes "mean"
 table_word Certificate = codes "certificate"
+table_word Relation = codes "relation"
+table_word Ending = codes "ending"
+table_word Stable = codes "stable"

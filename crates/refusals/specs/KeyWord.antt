@@ -1,7 +1,7 @@
 -- The words of the lab file's keys.
 use Rattle.std.specs.Prelude.{List, ℕ, codes}
-use Rattle.lab_ports.specs.declared.place.KeyName.{KeyName}
-use Rattle.lab_ports.specs.declared.place.KeyName.TheVariants.{Version, Game, Noise, Entry, R, S, T, P, E, N, Name, Kind, Den, Opening, Weights, Start, Rows, File, Own, Other, First, Table, Plug, Left, Right, Turns, SelfPlay, Edges, Pairs, Slices, Neighbours, Generations, Second, Population, Wd, Wn, Of, Match, Tournament, Rota, Board, Moran, Best, Mean, Certificate}
+use Rattle.refusals.specs.declared.place.KeyName.{KeyName}
+use Rattle.refusals.specs.declared.place.KeyName.TheVariants.{Version, Game, Noise, Entry, R, S, T, P, E, N, Name, Kind, Den, Opening, Weights, Start, Rows, File, Own, Other, First, Table, Plug, Left, Right, Turns, SelfPlay, Edges, Pairs, Slices, Neighbours, Generations, Second, Population, Wd, Wn, Of, Match, Tournament, Rota, Board, Moran, Best, Mean, Certificate, Relation, Ending, Stable, L, K}
 
 -- a key as the lab file spells it
 abbrev pub key_word : KeyName → List ℕ
@@ -50,3 +50,8 @@ key_word Moran = codes "moran"
 key_word Best = codes "best"
 key_word Mean = codes "mean"
 key_word Certificate = codes "certificate"
+key_word Relation = codes "relation"
+key_word Ending = codes "ending"
+key_word Stable = codes "stable"
+key_word L = codes "l"
+key_word K = codes "k"

@@ -1,7 +1,7 @@
 -- Text that is put together from pieces.
 use Rattle.std.specs.Prelude.{ℕ, List, [], ◌∷◌, ◌++◌, decimal}
-use Rattle.lab_ports.specs.declared.piece.Piece.{Piece}
-use Rattle.lab_ports.specs.declared.piece.Piece.TheVariants.{Text, Number}
+use Rattle.refusals.specs.declared.piece.Piece.{Piece}
+use Rattle.refusals.specs.declared.piece.Piece.TheVariants.{Text, Number}
 
 -- words as they are, and a number in decimal digits
 abbrev pub piece_text : Piece → List ℕ

@@ -1,9 +1,9 @@
 -- The numbers and the names of refusals.
 use Rattle.std.specs.Prelude.{ℕ, List, codes}
-use Rattle.lab_ports.specs.declared.refusal.Refusal.{Refusal}
-use Rattle.lab_ports.specs.declared.refusal.Refusal.TheVariants.{TooLong, Syntax, Version, MissingKey, WrongType, OutOfRange, BadName, DoubledName, UnknownKind, BadRows, UnknownPlug, TooManyRows, NoJob, UnknownEntry, TooManyTurns, TooMuchWork, NotSure, NoFitness, BadBoard, DoubledEdge, BadCheckpoint, BadCertificate, NotBuilt}
+use Rattle.refusals.specs.declared.refusal.Refusal.{Refusal}
+use Rattle.refusals.specs.declared.refusal.Refusal.TheVariants.{TooLong, Syntax, Version, MissingKey, WrongType, OutOfRange, BadName, DoubledName, UnknownKind, BadRows, UnknownPlug, TooManyRows, NoJob, UnknownEntry, TooManyTurns, TooMuchWork, NotSure, NoFitness, BadBoard, DoubledEdge, BadCheckpoint, BadCertificate, NotBuilt, NotVector}
 
--- the number by which a user knows a refusal, from 1 to 23
+-- the number by which a user knows a refusal, from 1 to 24
 abbrev pub number_of : Refusal → ℕ
 number_of (TooLong _) = 1
 number_of Syntax = 2
@@ -28,6 +28,7 @@ number_of (DoubledEdge _) = 20
 number_of (BadCheckpoint _ _) = 21
 number_of (BadCertificate _) = 22
 number_of NotBuilt = 23
+number_of (NotVector _) = 24
 
 -- the name of a refusal: that of its variant
 abbrev pub name_of : Refusal → List ℕ
@@ -54,3 +55,4 @@ name_of (DoubledEdge _) = codes "DoubledEdge"
 name_of (BadCheckpoint _ _) = codes "BadCheckpoint"
 name_of (BadCertificate _) = codes "BadCertificate"
 name_of NotBuilt = codes "NotBuilt"
+name_of (NotVector _) = codes "NotVector"

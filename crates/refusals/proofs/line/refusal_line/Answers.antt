@@ -1,6 +1,6 @@
 use Rattle.std.proofs.Common.{◌≡◌, rules, length, refl}
-use Rattle.lab_ports.proofs.Joined.{joined_six}
-use Rattle.lab_ports.proofs.tell.line_of.Goals as goal
+use Rattle.refusals.proofs.Joining.{joined_six}
+use Rattle.refusals.proofs.line.refusal_line.Goals as goal
 
 pub returns : goal.returns
 returns c =

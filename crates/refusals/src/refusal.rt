@@ -1,6 +1,6 @@
 //! Why the program may refuse its files.
 ghost use Rattle.std.specs.Prelude.{◌≡◌};
-ghost use Rattle.lab_ports.specs.declared.refusal.FileError.TheVariants.{NoMemory, Refused};
+ghost use Rattle.refusals.specs.declared.refusal.FileError.TheVariants.{NoMemory, Refused};
 
 use crate::Place;
 use std::alloc::{AllocError, AllocFailed};
@@ -30,7 +30,7 @@ pub enum RowCause {
     BadMark,
 }
 
-/// Why the program refuses the files or words that it is given. Each has a number from 1 to 23, in
+/// Why the program refuses the files or words that it is given. Each has a number from 1 to 24, in
 /// the order of the variants, and its variant's name, both of which the program prints. Entries,
 /// rows, edges and lines are counted from 1.
 #[derive(Clone, Copy, Debug, PartialEq, Eq)]
@@ -84,12 +84,14 @@ pub enum Refusal {
     BadCertificate(u32),
     /// 23: the words or the lab use a part of the program that isn't there yet.
     NotBuilt,
+    /// 24: a relation is asked of this entry, which isn't of kind `memory-one`.
+    NotVector(u32),
 }
 
 impl Refusal {
-    ghost use Rattle.lab_ports.specs.Refusal.{number_of, name_of};
+    ghost use Rattle.refusals.specs.Refusal.{number_of, name_of};
 
-    /// The number, from 1 to 23.
+    /// The number, from 1 to 24.
     pub fn number(&self) -> u32
         ensures { result ≡ number_of self.now }
     {
@@ -117,6 +119,7 @@ impl Refusal {
             Refusal::BadCheckpoint(_, _) => 21,
             Refusal::BadCertificate(_) => 22,
             Refusal::NotBuilt => 23,
+            Refusal::NotVector(_) => 24,
         }
     }
 
@@ -148,6 +151,7 @@ impl Refusal {
             Refusal::BadCheckpoint(_, _) => "BadCheckpoint",
             Refusal::BadCertificate(_) => "BadCertificate",
             Refusal::NotBuilt => "NotBuilt",
+            Refusal::NotVector(_) => "NotVector",
         }
     }
 }

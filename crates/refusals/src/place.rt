@@ -28,10 +28,16 @@ pub enum TableName {
     Mean,
     /// The job of a certificate.
     Certificate,
+    /// The job of a relation that a vector enforces.
+    Relation,
+    /// The job of a match that ends by chance.
+    Ending,
+    /// The job of a verdict on an equilibrium.
+    Stable,
 }
 
 impl TableName {
-    ghost use Rattle.lab_ports.specs.TableWord.{table_word};
+    ghost use Rattle.refusals.specs.TableWord.{table_word};
 
     /// The table's word in the lab file; `top` for the file itself.
     pub fn word(&self) -> &'static str
@@ -50,6 +56,9 @@ impl TableName {
             TableName::Best => "best",
             TableName::Mean => "mean",
             TableName::Certificate => "certificate",
+            TableName::Relation => "relation",
+            TableName::Ending => "ending",
+            TableName::Stable => "stable",
         }
     }
 }
@@ -150,10 +159,20 @@ pub enum KeyName {
     Mean,
     /// `certificate`: the table of that job.
     Certificate,
+    /// `relation`: the table of that job.
+    Relation,
+    /// `ending`: the table of that job.
+    Ending,
+    /// `stable`: the table of that job.
+    Stable,
+    /// `l`: the denominator of the chance that a match ends after a turn.
+    L,
+    /// `k`: the numerator of that chance.
+    K,
 }
 
 impl KeyName {
-    ghost use Rattle.lab_ports.specs.KeyWord.{key_word};
+    ghost use Rattle.refusals.specs.KeyWord.{key_word};
 
     /// The key as the lab file spells it.
     pub fn word(&self) -> &'static str
@@ -205,6 +224,11 @@ impl KeyName {
             KeyName::Best => "best",
             KeyName::Mean => "mean",
             KeyName::Certificate => "certificate",
+            KeyName::Relation => "relation",
+            KeyName::Ending => "ending",
+            KeyName::Stable => "stable",
+            KeyName::L => "l",
+            KeyName::K => "k",
         }
     }
 }

@@ -1,8 +1,8 @@
 -- Reading that stops at the first refusal.
 use Rattle.std.specs.Prelude.{◌≡◌, Option, Some, None, Result, Ok, Err}
-use Rattle.lab_ports.specs.declared.refusal.FileError.{FileError}
-use Rattle.lab_ports.specs.declared.refusal.FileError.TheVariants.{Refused, NoMemory}
-use Rattle.lab_ports.specs.declared.refusal.Refusal.{Refusal}
+use Rattle.refusals.specs.declared.refusal.FileError.{FileError}
+use Rattle.refusals.specs.declared.refusal.FileError.TheVariants.{Refused, NoMemory}
+use Rattle.refusals.specs.declared.refusal.Refusal.{Refusal}
 
 infixl 10 ◌>>=◌
 -- goes on with what was read, or stays at the refusal
