@@ -25,8 +25,8 @@ use Rattle.axlab_core.specs.Outcome.{Ends, IsUnread, IsWork, Wrote}
 use Rattle.axlab_core.specs.Output.{Delivers, GrewByFront, IsSendable, output_text}
 use Rattle.lab_file.specs.Lab.{LabData}
 use Rattle.axlab_core.specs.Right.{IsServed, Serves, ServesWell}
-use Rattle.axlab_core.specs.RightMatch.{IsAskedMatch}
-use Rattle.axlab_core.specs.RightTournament.{IsAskedTournament}
+use Rattle.play_commands.specs.RightMatch.{IsAskedMatch}
+use Rattle.play_commands.specs.RightTournament.{IsAskedTournament}
 use Rattle.axlab_core.specs.Steps.{Explains, LoadsInput}
 use Rattle.axlab_core.specs.Words.{needs_lab}
 use Rattle.axlab_core.specs.World.{World}

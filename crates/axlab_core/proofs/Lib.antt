@@ -1,17 +1,4 @@
-pub mod ByRule
 pub mod Completing
 pub mod Ending
-pub mod Contesting
-pub mod DrillLoops
-pub mod DrillReports
-pub mod Drilling
-pub mod Drills
-pub mod Entries
 pub mod Loading
-pub mod Points
-pub mod Reports
-pub mod Ruled
 pub mod SentUpTo
-pub mod Showing
-pub mod TableLines
-pub mod Tables

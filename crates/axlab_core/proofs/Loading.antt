@@ -25,7 +25,8 @@ use Rattle.lab_file.specs.Notes.{IsNotedDraft, AreNoted, LabsAreNoted}
 use Rattle.axlab_core.specs.declared.load.LoadError.{LoadError}
 use Rattle.axlab_core.specs.declared.load.LoadError.TheVariants.{Unread, Refused, NoMemory}
 use Rattle.axlab_core.specs.Loading.{Stop, Missing, Refuses, ◌>>=◌, or_missing, or_stop, file_source, part_source, machine_source, lab_read, draft_read, entries_read, Loads, IsTold}
-use Rattle.axlab_core.specs.Steps.{of_file, ReadFails, Explains, IsReadyDraft, IsReadyEntry, ReadsLab, Attaches, AttachStops, AttachesAll, AttachAllStops, ReadsSecond, LoadsInput}
+use Rattle.play_commands.specs.Ready.{IsReadyDraft, IsReadyEntry}
+use Rattle.axlab_core.specs.Steps.{of_file, ReadFails, Explains, ReadsLab, Attaches, AttachStops, AttachesAll, AttachAllStops, ReadsSecond, LoadsInput}
 use Rattle.refusals.specs.declared.refusal.FileRole.{FileRole}
 use Rattle.axlab_core.specs.declared.second.Second.{Second}
 use Rattle.axlab_core.specs.declared.second.Second.TheVariants.{Alone}

@@ -11,9 +11,9 @@ use Rattle.axlab_core.specs.declared.words.Form.TheVariants.{Lab, Drill}
 use Rattle.axlab_core.specs.Input.{Input, OfLab, OfWords, tested}
 use Rattle.axlab_core.specs.Loading.{Denies}
 use Rattle.axlab_core.specs.Output.{IsSendable, output_text}
-use Rattle.axlab_core.specs.RightDrill.{IsRightDrill, IsAskedDrill}
-use Rattle.axlab_core.specs.RightMatch.{IsRightMatch, IsAskedMatch}
-use Rattle.axlab_core.specs.RightTournament.{IsRightTournament, IsAskedTournament}
+use Rattle.play_commands.specs.RightDrill.{IsRightDrill, IsAskedDrill}
+use Rattle.play_commands.specs.RightMatch.{IsRightMatch, IsAskedMatch}
+use Rattle.play_commands.specs.RightTournament.{IsRightTournament, IsAskedTournament}
 use Rattle.player_core.specs.State.{BenchState, players_of}
 
 -- the text is a right output of a command for its input, for which the players of the bench were asked as they must be

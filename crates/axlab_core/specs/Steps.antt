@@ -16,6 +16,7 @@ use Rattle.axlab_core.specs.declared.load.LoadError.TheVariants.{Unread, Refused
 use Rattle.lab_file.specs.declared.command.Command.{Command}
 use Rattle.axlab_core.specs.declared.second.Second.{Second}
 use Rattle.axlab_core.specs.Input.{Input, Given, Names, sources, second_for, loaded_for}
+use Rattle.play_commands.specs.Ready.{IsReadyEntry}
 use Rattle.axlab_core.specs.Loading.{Stop, Missing, Refuses, part_source, file_source, machine_source, lab_read, draft_read, entries_read}
 
 -- a file's error
@@ -34,14 +35,6 @@ abbrev pub Explains : LoadError → Type 0 → Type 0 → (Stop → Type 0) → 
 Explains Unread failed told stops = failed ⊎ (told × stops Missing)
 Explains (Refused refusal) failed told stops = stops (Refuses refusal)
 Explains NoMemory failed told stops = Unit {0}
-
--- an entry whose sheet is there
-abbrev pub IsReadyDraft : Draft → Type 0
-IsReadyDraft (Ready sheet) = Unit {0}
-IsReadyDraft (FromFile machine) = ⊥
-
-abbrev pub IsReadyEntry : Entry → Type 0
-IsReadyEntry entry = IsReadyDraft entry.draft
 
 -- the read of the lab file made this of it
 pub record ReadsLab (notes : List PlugNote) (name : List ℕ) (holding : Option Holding) (answer : Result LabData Stop) : Type 0 where

@@ -2,16 +2,13 @@
 //! the report.
 #![tactic(auto)]
 
-mod drill_job;
 mod load;
-mod matches;
 mod output;
 mod run;
 mod second;
 mod sending;
 mod status;
 mod telling;
-mod tournament;
 mod words;
 mod world;
 

@@ -5,7 +5,8 @@ ghost use Rattle.lab_ports.specs.Holding.{IsFront, IsMissing};
 ghost use Rattle.lab_file.specs.Limits.{limits_of};
 ghost use Rattle.lab_file.specs.Notes.{AreNoted};
 ghost use Rattle.axlab_core.specs.Loading.{Loads, IsTold};
-ghost use Rattle.axlab_core.specs.Steps.{Attaches, AttachesAll, AttachStops, AttachAllStops, Explains, IsFit, IsReadyEntry, LoadsInput, ReadFails, ReadsLab};
+ghost use Rattle.play_commands.specs.Ready.{IsReadyEntry};
+ghost use Rattle.axlab_core.specs.Steps.{Attaches, AttachesAll, AttachStops, AttachAllStops, Explains, IsFit, LoadsInput, ReadFails, ReadsLab};
 ghost use Rattle.axlab_core.specs.Input.{OfLab};
 
 use crate::second::{Second, read_second};

@@ -17,16 +17,14 @@ ghost use Rattle.axlab_core.specs.WordList.{word_list};
 ghost use Rattle.axlab_core.specs.Words.{form_of, lab_name, second_name, needs_lab};
 ghost use Rattle.axlab_core.specs.declared.words.Form.TheVariants as forms;
 
-use crate::drill_job::drill;
 use crate::load::{LoadError, Loaded, load_input};
-use crate::matches::lab_match;
 use crate::output::{Hindrance, Output, deliver};
 use crate::telling::tell;
-use crate::tournament::lab_tournament;
 use crate::world::Watched;
 use crate::{Form, Status};
 use lab_file::Command;
 use lab_ports::{Library, Refusal, Sink};
+use play_commands::{drill, lab_match, lab_tournament};
 use player_core::laws::keeping_lasts;
 use player_core::{Bench, Player, PlugNote, Seen};
 use std::alloc::Global;

@@ -9,8 +9,8 @@ use crate::pairs::played_at;
 use crate::rows::entry_rows;
 use crate::sure::entry_is_sure;
 use crate::{Command, Entries, Lab, MatchJob, TournamentJob};
-use refusals::Refusal;
 use player_core::PlugNote;
+use refusals::Refusal;
 
 // The most turns of a match that is sure, and of any other.
 const MOST_SURE_TURNS: u64 = 1_000_000_000_000;

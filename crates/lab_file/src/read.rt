@@ -10,8 +10,8 @@ use crate::jobs::jobs_of;
 use crate::places::top;
 use game_file::read_game;
 use lab_keys::value_at;
-use refusals::{FileError, FileRole, KeyName, Refusal};
 use player_core::PlugNote;
+use refusals::{FileError, FileRole, KeyName, Refusal};
 use std::alloc::Global;
 use toml::Table;
 

@@ -7,8 +7,8 @@ ghost use Rattle.lab_report.specs.Text.{body_lines, drill_lines, entry_lines, fi
 ghost use Rattle.lab_report.specs.Valid.{IsBody, IsTable, IsValid};
 
 use crate::{Body, Names, Report};
-use result_lines::{EntryLine, MatchLine, Rank};
 use report_lines::{Kind, Line, ShownEntry, ShownFirst, ShownMatch};
+use result_lines::{EntryLine, MatchLine, Rank};
 
 fn kind_of(body: &Body) -> Kind
     ensures { result ≡ kind_of body.now }

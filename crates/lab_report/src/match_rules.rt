@@ -9,8 +9,8 @@ use crate::state::{BodySoFar, State};
 use crate::{Body, Names};
 use fixed_span::Span;
 use history_model::{Game, NoMemory, Noise, Tally};
-use result_lines::MatchLine;
 use report_lines::{Line, ShownMatch};
+use result_lines::MatchLine;
 
 fn is_paid(score: Span, points: u128) -> bool
     requires { points ≤ 10 ^ 18 }

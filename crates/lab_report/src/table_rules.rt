@@ -14,8 +14,8 @@ use crate::state::{BodySoFar, State};
 use crate::table::Table;
 use fixed_span::Span;
 use history_model::{Game, NoMemory, Noise};
-use result_lines::{EntryLine, MatchLine, Rank, rank_of, total_of, undecided_of, wins_of};
 use report_lines::{Line, ShownEntry, ShownMatch};
+use result_lines::{EntryLine, MatchLine, Rank, rank_of, total_of, undecided_of, wins_of};
 use std::alloc::Global;
 
 // An undecided rank has no number.

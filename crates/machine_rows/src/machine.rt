@@ -8,8 +8,8 @@ use crate::states::States;
 use crate::transition::{Transition, exit_on};
 use history_model::Move;
 use indexmap::IndexSet;
-use refusals::{FileError, Refusal};
 use player_core::Sheet;
+use refusals::{FileError, Refusal};
 use std::alloc::{AllocError, Global};
 use std::marker::Model;
 

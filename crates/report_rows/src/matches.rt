@@ -6,8 +6,8 @@ use crate::shared::{changed, check_text, read, refused_line};
 use fixed_span::Span;
 use history_model::{Game, Name, Noise, Tally};
 use lab_report::{Body, Names, Noises, Report};
-use result_lines::MatchLine;
 use report_making::match_report;
+use result_lines::MatchLine;
 use std::alloc::Global;
 use std::test::Fail;
 

@@ -8,8 +8,8 @@ use crate::shared::{changed, check_text};
 use fixed_span::Span;
 use history_model::{Game, Name, Noise};
 use lab_report::Report;
-use result_lines::{EntryLine, EntryLines, MatchLine, MatchLines, Rank, Totals};
 use report_making::tournament_report;
+use result_lines::{EntryLine, EntryLines, MatchLine, MatchLines, Rank, Totals};
 use std::alloc::Global;
 use std::test::Fail;
 

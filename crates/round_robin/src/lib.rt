@@ -13,6 +13,8 @@ mod tournament;
 pub use contestant::Contestant;
 pub use entrant::Entrant;
 pub use lines::match_line;
-pub use result_lines::{EntryLine, EntryLines, MatchLines, Rank, Totals};
-pub use result_lines::{rank_of, ranks, total_of, undecided_of, wins_of};
+pub use result_lines::{
+    EntryLine, EntryLines, MatchLines, Rank, Totals, rank_of, ranks, total_of, undecided_of,
+    wins_of,
+};
 pub use tournament::totals;

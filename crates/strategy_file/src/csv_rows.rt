@@ -15,9 +15,9 @@ use crate::csv_read::{read_bytes, take_record};
 use crate::toml_rows::{LAST_STATE, move_of};
 use csv::{ByteRecord, Reader};
 use history_model::Move;
-use refusals::{FileError, FileRole, Refusal};
 use machine_rows::{MachineRows, Transition};
 use player_core::Sheet;
+use refusals::{FileError, FileRole, Refusal};
 use std::alloc::Global;
 
 // A file has at most so many bytes.

@@ -12,8 +12,8 @@ use crate::toml_rows::{LAST_STATE, machine_sheet, move_of};
 use crate::{Draft, FileName, MachineFile};
 use history_model::{Move, Name};
 use lab_keys::{array_of, found_at, text_at, text_of, whole_at, wholes_at};
-use refusals::{FileError, KeyName, Place, Refusal, TableName};
 use player_core::{PlugNote, Sheet};
+use refusals::{FileError, KeyName, Place, Refusal, TableName};
 use std::alloc::Global;
 use toml::{Table, Value};
 

@@ -7,9 +7,9 @@ ghost use Rattle.strategy_file.specs.TomlRows.{move_of, move_in, row_of, row_in,
 
 use history_model::Move;
 use lab_keys::number_within;
-use refusals::{FileError, Refusal};
 use machine_rows::{MachineRows, Transition};
 use player_core::Sheet;
+use refusals::{FileError, Refusal};
 use std::alloc::Global;
 use toml::Value;
 use toml::value::Array;

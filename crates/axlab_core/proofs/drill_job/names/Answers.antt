@@ -1,5 +1,0 @@
-use Rattle.axlab_core.proofs.DrillLoops.{name_more}
-use Rattle.axlab_core.proofs.drill_job.names.Goals as goal
-
-pub loop-place-preserved : goal.loop-place-preserved
-loop-place-preserved c = name_more c.loop-place.names.items _ _ _ c.loop-place.place 64 c.loop-place-test.true c.drill_name.ensures c.in_ok-push.ensures.items c.loop-place.invariant

@@ -1,5 +1,0 @@
-use Rattle.axlab_core.proofs.DrillLoops.{IsSumUpTo}
-use Rattle.axlab_core.proofs.drill_job.sum_of_totals.Given as goal
-
-abbrev pub invariant-loop-entry : goal.invariant-loop-entry
-invariant-loop-entry l = IsSumUpTo l.entry-index l.sum l.entries

@@ -1,7 +1,0 @@
-use Rattle.axlab_core.proofs.Reports.{right_report}
-use Rattle.axlab_core.proofs.matches.lab_match.Goals as goal
-
-pub returns-clause-right : goal.returns-clause-right
-returns-clause-right g c =
-    right_report _ _ c.requires.fits c.args.lab.now c.match_job-job.result c.in_ok-line.line c.line_report.result c.match_job-job.ensures.job
-    c.in_ok-line.ensures.right c.line_report.ensures.report c.line_report.ensures.valid

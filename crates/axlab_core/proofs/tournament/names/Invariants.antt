@@ -1,6 +1,0 @@
-use Rattle.std.proofs.Common.{◌≡◌, ◌++◌, drop}
-use Rattle.axlab_core.specs.Contestants.{names_of}
-use Rattle.axlab_core.proofs.tournament.names.Given as goal
-
-abbrev pub invariant-loop-entry : goal.invariant-loop-entry
-invariant-loop-entry l = l.names.items ++ names_of (drop l.entry-index l.entry-items) ≡ names_of l.entry-items

@@ -1,6 +1,0 @@
-use Rattle.std.proofs.Common.{◌∙◌}
-use Rattle.axlab_core.proofs.Contesting.{names_differ}
-use Rattle.axlab_core.proofs.tournament.table_report.Goals as goal
-
-pub tournament_report-requires-clause-different : goal.tournament_report-requires-clause-different
-tournament_report-requires-clause-different c = names_differ c.args.lab.now.entries c.deref.result.now (c.deref.ensures.value ∙ c.in_ok-names.ensures) c.shape.ensures.entries.differ

@@ -1,0 +1,13 @@
+pub mod ByRule
+pub mod Contesting
+pub mod DrillLoops
+pub mod DrillReports
+pub mod Drilling
+pub mod Drills
+pub mod Entries
+pub mod Points
+pub mod Reports
+pub mod Ruled
+pub mod Showing
+pub mod TableLines
+pub mod Tables

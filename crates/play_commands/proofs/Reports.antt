@@ -1,0 +1,81 @@
+-- The report that is made of a right line is right.
+use Rattle.std.proofs.Common.{◌≡◌, ℕ, List, bytes_eq, Option, Some, None, Result, Ok, Err, IfOk, if◌then◌else◌, refl, inl, inr}
+use Rattle.std.proofs.lemmas.Bool.{cases_Bool}
+use Rattle.std.proofs.lemmas.Slice.Eq.{bytes_eq-Decides}
+use Rattle.history_model.specs.declared.tally.Tally.{Tally}
+use Rattle.player_core.specs.State.{Lasting}
+use Rattle.player_core.specs.Fits.{SidesFit}
+use Rattle.result_lines.specs.declared.line.MatchLine.{MatchLine}
+use Rattle.lab_report.specs.declared.report.Report.{Report}
+use Rattle.lab_report.specs.Names.{name_at}
+use Rattle.lab_report.specs.Text.{report_text}
+use Rattle.lab_report.specs.Valid.{IsValid}
+use Rattle.report_making.specs.Made.{names_of_pair, match_report_of}
+use Rattle.lab_file.specs.declared.jobs.MatchJob.{MatchJob}
+use Rattle.lab_file.specs.Lab.{LabData, entry_at}
+use Rattle.play_commands.specs.Entrants.{Entrant}
+use Rattle.play_commands.specs.RightMatch.{IsRightMatch}
+use Rattle.play_commands.specs.RightLine.{IsRightScore, IsRightBetween}
+
+-- the places of two names in their report
+left_shown : (left right : List ℕ) → name_at (names_of_pair left right) 0 ≡ left
+left_shown left right = elim (cases_Bool (bytes_eq left right)) [ inl same ↦ rw same refl | inr other ↦ rw other refl ]
+
+right_shown : (left right : List ℕ) → name_at (names_of_pair left right) (if bytes_eq left right then 0 else 1) ≡ right
+right_shown left right = elim (cases_Bool (bytes_eq left right)) [
+  | inl same ↦ rw same ((bytes_eq-Decides left right).0 same)
+  | inr other ↦ rw other refl
+]
+
+-- where its names stand changes nothing of what a line says
+pub placed : (players : List Lasting) (lab : LabData) (left right : Entrant) (line : MatchLine) (i j : ℕ) (tally : Option Tally)
+    → IsRightScore players lab left right line tally → IsRightScore players lab left right (record line { left = i; right = j }) tally
+placed players lab left right line i j (Some tally) played = record {
+  sure = played.sure;
+  history = played.history;
+  by_rules = played.by_rules;
+  plays = played.plays;
+  left_score = played.left_score;
+  right_score = played.right_score;
+}
+placed players lab left right line i j None mixed = record {
+  unsure = mixed.unsure;
+  left_holds = mixed.left_holds;
+  right_holds = mixed.right_holds;
+  left_width = mixed.left_width;
+  right_width = mixed.right_width;
+  left_tight = mixed.left_tight;
+  right_tight = mixed.right_tight;
+}
+
+pub right_report : {E : Type 0} (players on_the_right : List Lasting) → SidesFit players on_the_right → (lab : LabData) (job : MatchJob) (line : MatchLine) (made : Result Report E)
+    → lab.jobs.match_job ≡ Some job → IsRightBetween players lab job.left job.right job.turns line
+    → IfOk made (λ report. report ≡ match_report_of lab.game lab.noise (entry_at lab.entries job.left).name (entry_at lab.entries job.right).name line)
+    → IfOk made IsValid → IfOk made (λ report. IsRightMatch players lab (report_text report))
+right_report players on_the_right fits lab job line (Ok report) is right made_is valid =
+    let left_name = (entry_at lab.entries job.left).name in
+    let right_name = (entry_at lab.entries job.right).name in
+    let j = if bytes_eq left_name right_name then 0 else 1 in
+    let made = match_report_of lab.game lab.noise left_name right_name line in
+    let valid_so : IsValid made = rw made_is at valid in
+    let here : IsRightMatch players lab (report_text made) = record {
+      job = job;
+      job_is = is;
+      report = made;
+      valid = valid_so;
+      text = refl;
+      of_lab = record { version = refl; game = refl; noise = refl };
+      line = record line { left = 0; right = j };
+      body = refl;
+      left_name = left_shown left_name right_name;
+      right_name = right_shown left_name right_name;
+      right = record {
+        left = right.left;
+        right = right.right;
+        left_is = right.left_is;
+        right_is = right.right_is;
+        turns_are = right.turns_are;
+        score = placed players lab right.left right.right line 0 j line.tally right.score;
+      };
+    } in rw made_is here
+right_report players on_the_right fits lab job line (Err error) is right made_is valid = tt

@@ -1,0 +1,16 @@
+use Rattle.play_commands.proofs.Contesting.{are_entrants}
+use Rattle.play_commands.proofs.Tables.{right_table, asked_table}
+use Rattle.play_commands.proofs.tournament.lab_tournament.Goals as goal
+
+pub returns-clause-right : goal.returns-clause-right
+returns-clause-right g c =
+    right_table c.vectors_follow_their_rule.ensures c.machines_follow_their_rule.ensures c.tables_follow_their_rule.ensures c.weights_decide.ensures c.path_is_one.ensures
+    _ _ c.requires.fits c.args.lab.now c.deref.result.now (rw c.deref.ensures.value c.in_ok-contestants.ensures)
+    c.tournaments_ascend.ensures c.tournaments_are_true.ensures c.tournament_job-job.result.now c.in_ok-results.results c.in_ok-results.ensures.lines c.in_ok-results.ensures.entries
+    c.table_report.result c.tournament_job-job.ensures.job c.table_report.ensures.report c.table_report.ensures.valid c.table_report.ensures.shows
+
+pub returns-clause-asked : goal.returns-clause-asked
+returns-clause-asked g c =
+    asked_table _ _ c.args.lab.now c.deref.result.now c.tournament_job-job.result.now c.table_report.result c.tournament_job-job.ensures.job
+    (are_entrants c.args.lab.now c.deref.result.now (rw c.deref.ensures.value c.in_ok-contestants.ensures))
+    c.in_ok-results.ensures.asked

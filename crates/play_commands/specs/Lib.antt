@@ -1,0 +1,9 @@
+pub mod ByRule
+pub mod Contestants
+pub mod Entrants
+pub mod Machines
+pub mod Ready
+pub mod RightDrill
+pub mod RightLine
+pub mod RightMatch
+pub mod RightTournament
