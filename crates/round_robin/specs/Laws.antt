@@ -1,5 +1,5 @@
 -- The law that ties sure matches to expectations.
-use Rattle.std.specs.Prelude.{ℕ, ◌≡◌, ◌*◌, ◌^◌, ◌≤◌, pos, ◌≤ℤ◌, IfSome}
+use Rattle.std.specs.Prelude.{ℕ, ◌≡◌, ◌*◌, ◌^◌, ◌≤◌, pos, IfSome}
 use Rattle.history_model.specs.Automaton.{Automaton, IsAutomaton}
 use Rattle.history_model.specs.Expectation.{player, quotient, expectation}
 use Rattle.history_model.specs.Game.{Payoffs, IsGame}
@@ -9,6 +9,7 @@ use Rattle.history_model.specs.Tally.{counts, total, left_points, right_points}
 use Rattle.fixed_span.specs.Span.{Ends, Holds, score_units}
 use Rattle.result_lines.specs.declared.line.MatchLine.{MatchLine}
 use Rattle.product_chain.specs.Expected.{expected_score, IsSureMatch}
+use Rattle.result_lines.specs.Totals.{IsScoreSpan}
 use Rattle.round_robin.specs.Line.{IsLineOf}
 
 -- two automata and the chances with which their moves are flipped
