@@ -10,13 +10,13 @@ use Rattle.axlab_core.specs.declared.words.Form.TheVariants.{Drill, Unbuilt, Fau
 use Rattle.axlab_core.specs.Complete.{Holds, MustAnswer, MustDrill, MustMiss, MustStop}
 use Rattle.axlab_core.specs.Input.{Call, Comes, Input, OfWords, Given, input_by, input_for, players, sources}
 use Rattle.axlab_core.specs.Loading.{Stop, Unlisted, Missing, Refuses, Denies}
-use Rattle.axlab_core.specs.Outcome.{Ends, IsUnread, IsWork, LeftOff, OnAnswered, OnWriteFault, OnReadFault, OnNoMemory, IfRefused, IfDenied, OnUnwritten, Wrote, status_of}
+use Rattle.axlab_core.specs.Outcome.{Ends, EndsBy, IsUnread, IsWork, LeftOff, OnAnswered, OnWriteFault, OnReadFault, OnNoMemory, IfRefused, IfDenied, OnUnwritten, Wrote, status_of}
 use Rattle.axlab_core.specs.Words.{needs_lab}
 use Rattle.axlab_core.specs.World.{World}
 
 -- each status by its clause
 pub on_answered : (call : Call) (after : World) (status : Status) → Ends call after status → OnAnswered status (Wrote call after Grew)
-on_answered call after Answered e = e
+on_answered call after Answered e = e.by
 on_answered call after (Denied line) e = tt
 on_answered call after Usage e = tt
 on_answered call after ReadFault e = tt
@@ -28,7 +28,7 @@ pub on_read_fault : (call : Call) (after : World) (status : Status) → Ends cal
 on_read_fault call after Answered e = tt
 on_read_fault call after (Denied line) e = tt
 on_read_fault call after Usage e = tt
-on_read_fault call after ReadFault e = e.0
+on_read_fault call after ReadFault e = e.by.0
 on_read_fault call after (Refused refusal) e = tt
 on_read_fault call after WriteFault e = tt
 on_read_fault call after NoMemory e = tt
@@ -38,13 +38,13 @@ if_refused call after Answered e = tt
 if_refused call after (Denied line) e = tt
 if_refused call after Usage e = tt
 if_refused call after ReadFault e = tt
-if_refused call after (Refused refusal) e = e.0
+if_refused call after (Refused refusal) e = e.by.0
 if_refused call after WriteFault e = tt
 if_refused call after NoMemory e = tt
 
 pub if_denied : (call : Call) (after : World) (status : Status) → Ends call after status → IfDenied status (λ line. Comes call (Err (Denies line)))
 if_denied call after Answered e = tt
-if_denied call after (Denied line) e = e.0
+if_denied call after (Denied line) e = e.by.0
 if_denied call after Usage e = tt
 if_denied call after ReadFault e = tt
 if_denied call after (Refused refusal) e = tt
@@ -57,7 +57,7 @@ on_write_fault call after (Denied line) e = tt
 on_write_fault call after Usage e = tt
 on_write_fault call after ReadFault e = tt
 on_write_fault call after (Refused refusal) e = tt
-on_write_fault call after WriteFault e = e.1
+on_write_fault call after WriteFault e = e.by.1
 on_write_fault call after NoMemory e = tt
 
 pub on_part : (call : Call) (after : World) (status : Status) → Ends call after status → OnWriteFault status (Wrote call after GrewByPart)
@@ -66,7 +66,7 @@ on_part call after (Denied line) e = tt
 on_part call after Usage e = tt
 on_part call after ReadFault e = tt
 on_part call after (Refused refusal) e = tt
-on_part call after WriteFault e = e.0
+on_part call after WriteFault e = e.by.0
 on_part call after NoMemory e = tt
 
 pub on_no_memory : (call : Call) (after : World) (status : Status) → Ends call after status → OnNoMemory status (LeftOff call after)
@@ -76,14 +76,14 @@ on_no_memory call after Usage e = tt
 on_no_memory call after ReadFault e = tt
 on_no_memory call after (Refused refusal) e = tt
 on_no_memory call after WriteFault e = tt
-on_no_memory call after NoMemory e = e
+on_no_memory call after NoMemory e = e.by
 
 pub on_unwritten : (call : Call) (after : World) (status : Status) → Ends call after status → OnUnwritten status (after.taken ≡ call.before.taken)
 on_unwritten call after Answered e = tt
-on_unwritten call after (Denied line) e = e.1
-on_unwritten call after Usage e = e.1
-on_unwritten call after ReadFault e = e.1
-on_unwritten call after (Refused refusal) e = e.1
+on_unwritten call after (Denied line) e = e.by.1.taken
+on_unwritten call after Usage e = e.by.1.taken
+on_unwritten call after ReadFault e = e.by.1.taken
+on_unwritten call after (Refused refusal) e = e.by.1.taken
 on_unwritten call after WriteFault e = tt
 on_unwritten call after NoMemory e = tt
 
@@ -115,7 +115,7 @@ no_input stop input e = absurd (cc)
 no_stop : {A : Type 0} (stop : Stop) (input : Input) → ◌≡◌ {A = Result Input Stop} (Err stop) (Ok input) → A
 no_stop stop input e = absurd (cc)
 
-pub stops : (call : Call) (after : World) (status : Status) (stop : Stop) → Ends call after status → Settles call (Err stop) → StopsBy call after stop status
+pub stops : (call : Call) (after : World) (status : Status) (stop : Stop) → EndsBy call after status → Settles call (Err stop) → StopsBy call after stop status
 stops call after Answered stop e s = no_input stop e.input (settled call (Err stop) (Ok e.input) s e.comes)
 stops call after (Denied line) stop e s = so (same_stop stop (Denies line) (settled call (Err stop) (Err (Denies line)) s e.0))
 stops call after Usage stop e s = so (same_stop stop Unlisted (settled call (Err stop) (Err Unlisted) s (record { given = record { lab = []; machines = []; second = [] }; is = rw e.0 refl })))
@@ -132,7 +132,7 @@ pub data PassesBy (call : Call) (after : World) (status : Status) : Type 0 where
   unwritten : status ≡ WriteFault → Rose call.before.write_faults after.write_faults → PassesBy call after status
   left : status ≡ NoMemory → PassesBy call after status
 
-pub passes : (call : Call) (after : World) (status : Status) (input : Input) → Ends call after status → Settles call (Ok input) → PassesBy call after status
+pub passes : (call : Call) (after : World) (status : Status) (input : Input) → EndsBy call after status → Settles call (Ok input) → PassesBy call after status
 passes call after Answered input e s = answered refl
 passes call after (Denied line) input e s = no_stop (Denies line) input (settled call (Ok input) (Err (Denies line)) s e.0)
 passes call after Usage input e s = no_stop Unlisted input (settled call (Ok input) (Err Unlisted) s (record { given = record { lab = []; machines = []; second = [] }; is = rw e.0 refl }))
@@ -145,7 +145,7 @@ passes call after NoMemory input e s = left refl
 -- ---- the clauses
 
 pub completes : (call : Call) (after : World) (status : Status) → Ends call after status → MustAnswer call after status
-completes call after status e held calm calm_out = elim (passes call after status held.0 e (holds_settles call (Ok held.0) held.1)) [
+completes call after status e held calm calm_out = elim (passes call after status held.0 e.by (holds_settles call (Ok held.0) held.1)) [
   | answered is ↦ inl is
   | unread is needs rose ↦ absurd (calm rose)
   | unwritten is rose ↦ absurd (calm_out rose)
@@ -153,21 +153,21 @@ completes call after status e held calm calm_out = elim (passes call after statu
 ]
 
 pub stops_so : (call : Call) (after : World) (status : Status) → Ends call after status → MustStop call after status
-stops_so call after status e stop held calm = elim (stops call after status stop e (holds_settles call (Err stop) held)) [
+stops_so call after status e stop held calm = elim (stops call after status stop e.by (holds_settles call (Err stop) held)) [
   | so is ↦ inl is
   | failed is needs rose ↦ absurd (calm rose)
   | wanted is work ↦ inr is
 ]
 
 pub misses : (call : Call) (after : World) (status : Status) → Ends call after status → MustMiss call status
-misses call after status e held = elim (stops call after status Missing e (holds_settles call (Err Missing) held)) [
+misses call after status e held = elim (stops call after status Missing e.by (holds_settles call (Err Missing) held)) [
   | so is ↦ inl is
   | failed is needs rose ↦ inl is
   | wanted is work ↦ inr is
 ]
 
 pub drills : (call : Call) (after : World) (status : Status) → Ends call after status → MustDrill call after status
-drills call after status e number is_drill calm_out = elim (passes call after status OfWords e (λ given. rw is_drill refl)) [
+drills call after status e number is_drill calm_out = elim (passes call after status OfWords e.by (λ given. rw is_drill refl)) [
   | answered is ↦ inl is
   | unread is needs rose ↦ absurd (no_files number (rw is_drill at needs))
   | unwritten is rose ↦ absurd (calm_out rose)
@@ -177,7 +177,7 @@ drills call after status e number is_drill calm_out = elim (passes call after st
   no_files number e = absurd cc
 
 pub usage : (call : Call) (after : World) (status : Status) → Ends call after status → call.form ≡ Faulty → status ≡ Usage
-usage call after status e faulty = elim (stops call after status Unlisted e (λ given. rw faulty refl)) [
+usage call after status e faulty = elim (stops call after status Unlisted e.by (λ given. rw faulty refl)) [
   | so is ↦ is
   | failed is needs rose ↦ absurd (no_files (rw faulty at needs))
   | wanted is work ↦ absurd (rw faulty at work)
@@ -186,13 +186,13 @@ usage call after status e faulty = elim (stops call after status Unlisted e (λ 
   no_files e = absurd cc
 
 is_faulty : (call : Call) (after : World) (status : Status) → status ≡ Usage → Ends call after status → call.form ≡ Faulty
-is_faulty call after status is e = let usage_ends : Ends call after Usage = rw is at e in usage_ends.0
+is_faulty call after status is e = let usage_ends : Ends call after Usage = rw is at e in usage_ends.by.0
 
 pub usage_exactly : (call : Call) (after : World) (status : Status) → Ends call after status → (status ≡ Usage) ↔ (call.form ≡ Faulty)
 usage_exactly call after status e = (λ is. is_faulty call after status is e, usage call after status e)
 
 pub unbuilt : (call : Call) (after : World) (status : Status) → Ends call after status → call.form ≡ Unbuilt → status ≡ Refused NotBuilt
-unbuilt call after status e is_unbuilt = elim (stops call after status (Refuses NotBuilt) e (λ given. rw is_unbuilt refl)) [
+unbuilt call after status e is_unbuilt = elim (stops call after status (Refuses NotBuilt) e.by (λ given. rw is_unbuilt refl)) [
   | so is ↦ is
   | failed is needs rose ↦ absurd (no_files (rw is_unbuilt at needs))
   | wanted is work ↦ absurd (rw is_unbuilt at work)

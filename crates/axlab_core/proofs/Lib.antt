@@ -1,4 +1,6 @@
+pub mod Asking
 pub mod Completing
 pub mod Ending
+pub mod Fronts
 pub mod Loading
 pub mod SentUpTo

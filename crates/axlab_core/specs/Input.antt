@@ -86,16 +86,20 @@ loaded_for command notes sources = do
   second ← second_for command sources.second
   Ok (OfLab lab second)
 
+-- what the words and the files of a call give
+abbrev pub found_for : Form → List PlugNote → Sources → Result Input Stop
+found_for (Lab command) notes sources = loaded_for command notes sources
+found_for (Drill number) notes sources = Ok OfWords
+found_for Unbuilt notes sources = Err (Refuses NotBuilt)
+found_for Faulty notes sources = Err Unlisted
+
 -- the input again where it passes the tests of its command, or the first line that is denied; so far no command tests
 abbrev pub tested : Form → List Lasting → Input → Result Input Stop
 tested _ players input = Ok input
 
 -- the whole order: the words, the files, the tests
 abbrev pub input_for : Form → List Lasting → Sources → Result Input Stop
-input_for (Lab command) players sources = loaded_for command (notes_of players) sources >>= λ input. tested (Lab command) players input
-input_for (Drill number) players sources = Ok OfWords
-input_for Unbuilt players sources = Err (Refuses NotBuilt)
-input_for Faulty players sources = Err Unlisted
+input_for form players sources = found_for form (notes_of players) sources >>= λ input. tested form players input
 
 -- ---- a call
 
@@ -116,8 +120,16 @@ call_of words before = record {
 abbrev pub players : Call → List Lasting
 players call = players_of call.before.bench
 
+abbrev pub found_by : Call → Given → Result Input Stop
+found_by call given = found_for call.form (notes_of (players call)) (sources call.names call.before.holding given)
+
 abbrev pub input_by : Call → Given → Result Input Stop
 input_by call given = input_for call.form (players call) (sources call.names call.before.holding given)
+
+-- its words and files give this input, by what the library holds, where it tells it; else by some bytes that the reads gave
+pub record Finds (call : Call) (input : Input) : Type 0 where
+  pub given : Given
+  pub is : found_by call given ≡ Ok input
 
 -- the call comes to this answer, by what the library holds, where it tells it; else by some bytes that the reads gave
 pub record Comes (call : Call) (answer : Result Input Stop) : Type 0 where

@@ -1,5 +1,7 @@
+pub mod Bounded
 pub mod Commands
 pub mod Complete
+pub mod Files
 pub mod Input
 pub mod Loading
 pub mod Outcome

@@ -4,7 +4,10 @@ use Rattle.lab_ports.specs.Causes.{Rose}
 use Rattle.lab_ports.specs.Holding.{Grew, GrewByPart}
 use Rattle.axlab_core.specs.declared.words.Form.{Form}
 use Rattle.axlab_core.specs.declared.words.Form.TheVariants.{Lab, Drill, Unbuilt, Faulty}
-use Rattle.axlab_core.specs.Input.{Call, Comes, Input}
+use Rattle.player_core.specs.Bench.{SameTurns}
+use Rattle.axlab_core.specs.Bounded.{IsBounded}
+use Rattle.axlab_core.specs.Files.{ReadsInOrder}
+use Rattle.axlab_core.specs.Input.{Call, Comes, Finds, Input}
 use Rattle.axlab_core.specs.Loading.{Stop, Unlisted, Missing, Refuses, Denies, IsTold}
 use Rattle.axlab_core.specs.Output.{GrewByFront}
 use Rattle.axlab_core.specs.Right.{IsServed}
@@ -71,13 +74,21 @@ IsWork Faulty = ⊥
 -- the output took all, a part, or a front part of a right text, for which the players were asked
 pub record Wrote (call : Call) (after : World) (Took : Option (List ℕ) → Option (List ℕ) → List ℕ → Type 0) : Type 0 where
   pub input : Input
+  pub found : Finds call input
   pub comes : Comes call (Ok input)
   pub text : List ℕ
   pub served : IsServed call.form call.before.bench after.bench input text
   pub took : Took call.before.taken after.taken text
 
-abbrev pub IsUntouched : Call → World → Type 0
-IsUntouched call after = after.taken ≡ call.before.taken
+-- the output took nothing, and nobody was advanced
+pub record IsUntouched (call : Call) (after : World) : Type 0 where
+  pub taken : after.taken ≡ call.before.taken
+  pub turns : SameTurns call.before.bench after.bench
+
+-- the output took nothing, and nobody was advanced more often than the work of the call allows
+pub record IsUnwritten (call : Call) (after : World) : Type 0 where
+  pub taken : after.taken ≡ call.before.taken
+  pub bounded : IsBounded call after
 
 -- the words want files, and the library failed, or it tells what it holds and the next file isn't there
 abbrev pub IsUnread : Call → World → Type 0
@@ -86,17 +97,22 @@ IsUnread call after =
 
 -- memory is wanted only where there is work, and then the output took nothing, or a front part of a right text
 abbrev pub LeftOff : Call → World → Type 0
-LeftOff call after = IsWork call.form × (IsUntouched call after ⊎ Wrote call after GrewByFront)
+LeftOff call after = IsWork call.form × (IsUnwritten call after ⊎ Wrote call after GrewByFront)
 
 -- how a call may end, by status
-abbrev pub Ends : Call → World → Status → Type 0
-Ends call after Answered = Wrote call after Grew
-Ends call after (Denied line) = Comes call (Err (Denies line)) × IsUntouched call after
-Ends call after Usage = (call.form ≡ Faulty) × IsUntouched call after
-Ends call after ReadFault = IsUnread call after × IsUntouched call after
-Ends call after (Refused refusal) = Comes call (Err (Refuses refusal)) × IsUntouched call after
-Ends call after WriteFault = Wrote call after GrewByPart × Rose call.before.write_faults after.write_faults
-Ends call after NoMemory = LeftOff call after
+abbrev pub EndsBy : Call → World → Status → Type 0
+EndsBy call after Answered = Wrote call after Grew
+EndsBy call after (Denied line) = Comes call (Err (Denies line)) × IsUnwritten call after
+EndsBy call after Usage = (call.form ≡ Faulty) × IsUntouched call after
+EndsBy call after ReadFault = IsUnread call after × IsUntouched call after
+EndsBy call after (Refused refusal) = Comes call (Err (Refuses refusal)) × IsUntouched call after
+EndsBy call after WriteFault = Wrote call after GrewByPart × Rose call.before.write_faults after.write_faults
+EndsBy call after NoMemory = LeftOff call after
+
+-- and whatever the status, files were read in their order
+pub record Ends (call : Call) (after : World) (status : Status) : Type 0 where
+  pub by : EndsBy call after status
+  pub reads : ReadsInOrder call after
 
 -- the status by which a call ends that stops so
 abbrev pub status_of : Stop → Status

@@ -9,7 +9,9 @@ use Rattle.axlab_core.specs.declared.output.Hindrance.TheVariants.{Denied, NoMem
 use Rattle.axlab_core.specs.declared.words.Form.{Form}
 use Rattle.axlab_core.specs.declared.words.Form.TheVariants.{Lab, Drill}
 use Rattle.axlab_core.specs.Input.{Input, OfLab, OfWords, tested}
+use Rattle.axlab_core.specs.Bounded.{MayAsk}
 use Rattle.axlab_core.specs.Loading.{Denies}
+use Rattle.play_commands.specs.MayAsk.{UpTo}
 use Rattle.axlab_core.specs.Output.{IsSendable, output_text}
 use Rattle.play_commands.specs.RightDrill.{IsRightDrill, IsAskedDrill}
 use Rattle.play_commands.specs.RightMatch.{IsRightMatch, IsAskedMatch}
@@ -33,8 +35,9 @@ pub record ServesWell (form : Form) (before after : BenchState) (input : Input) 
 -- what the work of a command may give for its input
 abbrev pub Serves : Form → BenchState → BenchState → Input → Result Output Hindrance → Type 0
 Serves form before after input (Ok output) = ServesWell form before after input output
-Serves form before after input (Err (Denied line)) = tested form (players_of before) input ≡ Err (Denies line)
-Serves form before after input (Err NoMemory) = Unit {0}
+Serves form before after input (Err (Denied line)) =
+    (tested form (players_of before) input ≡ Err (Denies line)) × UpTo before after (MayAsk form before after input)
+Serves form before after input (Err NoMemory) = UpTo before after (MayAsk form before after input)
 
 -- the sink took the text, or a part of it and failed
 abbrev pub Told : List ℕ → Option (List ℕ) → Option (List ℕ) → ℕ → ℕ → Type 0

@@ -11,6 +11,8 @@ use Rattle.lab_file.specs.Lab.{LabData, entry_at}
 use Rattle.lab_file.specs.Attached.{set_draft}
 use Rattle.lab_file.specs.Limits.{limits_of}
 use Rattle.lab_file.specs.Notes.{AreNoted}
+use Rattle.axlab_core.specs.declared.status.Status.{Status}
+use Rattle.axlab_core.specs.declared.status.Status.TheVariants as statuses
 use Rattle.axlab_core.specs.declared.load.LoadError.{LoadError}
 use Rattle.axlab_core.specs.declared.load.LoadError.TheVariants.{Unread, Refused, NoMemory}
 use Rattle.lab_file.specs.declared.command.Command.{Command}
@@ -23,6 +25,12 @@ use Rattle.axlab_core.specs.Loading.{Stop, Missing, Refuses, part_source, file_s
 abbrev pub of_file : FileError → LoadError
 of_file (file.Refused refusal) = Refused refusal
 of_file file.NoMemory = NoMemory
+
+-- how the call ends where a load fails
+abbrev pub load_status : LoadError → Status
+load_status Unread = statuses.ReadFault
+load_status (Refused refusal) = statuses.Refused refusal
+load_status NoMemory = statuses.NoMemory
 
 -- why a read gave nothing: the library failed, or it lacks the file
 abbrev pub ReadFails : LoadError → Type 0 → Type 0 → Type 0

@@ -1,14 +1,18 @@
 //! Loads the lab of a command: the lab file, then the files of its machines, then the limits.
-ghost use Rattle.std.specs.Prelude.{◌≡◌, ◌<◌, ◌≤◌, ◌^◌, All, length, Ok, Err, IfOk, IfErr, OnOk};
+ghost use Rattle.std.specs.Prelude.{◌≡◌, ◌<◌, ◌≤◌, ◌^◌, [], ◌∷◌, ◌++◌, All, length, Ok, Err, IfOk, IfErr, OnOk};
 ghost use Rattle.lab_ports.specs.Causes.{Rose};
 ghost use Rattle.lab_ports.specs.Holding.{IsFront, IsMissing};
+ghost use Rattle.lab_file.specs.Lab.{entry_at};
 ghost use Rattle.lab_file.specs.Limits.{limits_of};
 ghost use Rattle.lab_file.specs.Notes.{AreNoted};
 ghost use Rattle.axlab_core.specs.Loading.{Loads, IsTold};
 ghost use Rattle.play_commands.specs.Ready.{IsReadyEntry};
 ghost use Rattle.axlab_core.specs.Steps.{Attaches, AttachesAll, AttachStops, AttachAllStops, Explains, IsFit, LoadsInput, ReadFails, ReadsLab};
+ghost use Rattle.axlab_core.specs.Files.{AskedFront, AskedInOrder, AskedLab, AskedWholeLab, machine_file, machine_files};
 ghost use Rattle.axlab_core.specs.Input.{OfLab};
+ghost use Rattle.axlab_core.specs.declared.words.Form.TheVariants as forms;
 
+use crate::Status;
 use crate::second::{Second, read_second};
 use lab_file::laws::labs_are_noted;
 use lab_file::{Command, Lab, read_lab};
@@ -44,6 +48,21 @@ impl From<FileError> for LoadError {
     }
 }
 
+impl LoadError {
+    ghost use Rattle.axlab_core.specs.Steps.{load_status};
+
+    /// How the call ends.
+    pub(crate) fn status(self) -> Status
+        ensures { result ≡ load_status self }
+    {
+        match self {
+            LoadError::Unread => Status::ReadFault,
+            LoadError::Refused(refusal) => Status::Refused(refusal),
+            LoadError::NoMemory => Status::NoMemory,
+        }
+    }
+}
+
 /// The bytes of a file, up to a limit and a byte.
 pub(crate) fn read_file<L: Library>(
     alloc: Global,
@@ -53,6 +72,7 @@ pub(crate) fn read_file<L: Library>(
 ) -> Result<Vec<u8>, LoadError>
     requires { limit ≤ 2 ^ 30 }
     ensures front { IfOk result (λ bytes. IsFront (L.holding files.old) name.now limit bytes.items) }
+    ensures asked { L.asked files.new ≡ L.asked files.old ++ name.now ∷ [] }
     ensures fails { IfErr result (λ error. ReadFails error (Rose (L.faults files.old) (L.faults files.new)) (IsMissing (L.holding files.old) name.now)) }
     ensures held { L.holding files.new ≡ L.holding files.old }
     ensures later { L.faults files.old ≤ L.faults files.new }
@@ -72,6 +92,7 @@ fn read_first<L: Library>(
     notes: &Vec<PlugNote>,
     files: &mut L,
 ) -> Result<Lab, LoadError>
+    ensures asked { L.asked files.new ≡ L.asked files.old ++ name.now ∷ [] }
     ensures reads { IfOk result (λ lab. ReadsLab notes.now.items name.now (L.holding files.old) (Ok lab)) }
     ensures stops { IfErr result (λ error. Explains error (Rose (L.faults files.old) (L.faults files.new)) (IsTold (L.holding files.old)) (λ stop. ReadsLab notes.now.items name.now (L.holding files.old) (Err stop))) }
     ensures held { L.holding files.new ≡ L.holding files.old }
@@ -90,6 +111,7 @@ fn attach_file<L: Library>(
     files: &mut L,
 ) -> Result<(), LoadError>
     requires inside { place < length lab.old.entries }
+    ensures asked { L.asked files.new ≡ L.asked files.old ++ machine_file (entry_at lab.old.entries place).draft }
     ensures attaches { OnOk result (Attaches (L.holding files.old) place lab.old lab.new) }
     ensures stops { IfErr result (λ error. Explains error (Rose (L.faults files.old) (L.faults files.new)) (IsTold (L.holding files.old)) (AttachStops (L.holding files.old) place lab.old)) }
     ensures held { L.holding files.new ≡ L.holding files.old }
@@ -105,6 +127,8 @@ fn attach_file<L: Library>(
 
 // Gives each entry its rows that stand in a file, in file order.
 fn attach_files<L: Library>(alloc: Global, lab: &mut Lab, files: &mut L) -> Result<(), LoadError>
+    ensures asked { AskedFront (machine_files lab.old.entries) (L.asked files.old) (L.asked files.new) }
+    ensures all_asked { OnOk result (L.asked files.new ≡ L.asked files.old ++ machine_files lab.old.entries) }
     ensures attaches { OnOk result (AttachesAll (L.holding files.old) lab.old lab.new) }
     ensures stops { IfErr result (λ error. Explains error (Rose (L.faults files.old) (L.faults files.new)) (IsTold (L.holding files.old)) (AttachAllStops (L.holding files.old) lab.old)) }
     ensures held { L.holding files.new ≡ L.holding files.old }
@@ -132,6 +156,8 @@ fn load_lab<L: Library>(
     notes: &Vec<PlugNote>,
     files: &mut L,
 ) -> Result<Lab, LoadError>
+    ensures asked { AskedLab name.now notes.now.items (L.holding files.old) (L.asked files.old) (L.asked files.new) }
+    ensures all_asked { IfOk result (λ _. AskedWholeLab name.now notes.now.items (L.holding files.old) (L.asked files.old) (L.asked files.new)) }
     ensures loads { IfOk result (λ lab. Loads command notes.now.items name.now (L.holding files.old) (Ok lab)) }
     ensures ready { IfOk result (λ lab. All IsReadyEntry lab.entries) }
     ensures noted { IfOk result (λ lab. AreNoted notes.now.items lab.entries) }
@@ -158,6 +184,7 @@ pub(crate) fn load_input<L: Library>(
     notes: &Vec<PlugNote>,
     files: &mut L,
 ) -> Result<Loaded, LoadError>
+    ensures asked { AskedInOrder (forms.Lab command) (record { lab = name.now; second = second_name.now }) notes.now.items (L.holding files.old) (L.asked files.old) (L.asked files.new) }
     ensures loads { IfOk result (λ loaded. LoadsInput command notes.now.items (record { lab = name.now; second = second_name.now }) (L.holding files.old) (Ok (OfLab loaded.lab loaded.second))) }
     ensures fit { IfOk result (λ loaded. IsFit command notes.now.items loaded.lab) }
     ensures stops { IfErr result (λ error. Explains error (Rose (L.faults files.old) (L.faults files.new)) (IsTold (L.holding files.old)) (λ stop. LoadsInput command notes.now.items (record { lab = name.now; second = second_name.now }) (L.holding files.old) (Err stop))) }

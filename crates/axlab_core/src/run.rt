@@ -7,6 +7,8 @@ ghost use Rattle.lab_ports.specs.Causes.{Rose};
 ghost use Rattle.lab_ports.specs.Holding.{Grew, GrewByPart};
 ghost use Rattle.refusals.specs.declared.refusal.Refusal.TheVariants.{NotBuilt};
 ghost use Rattle.axlab_core.specs.Complete.{MustAnswer, MustDrill, MustMiss, MustRefuse, MustStop};
+ghost use Rattle.axlab_core.specs.Bounded.{IsBounded};
+ghost use Rattle.axlab_core.specs.Files.{ReadsInOrder};
 ghost use Rattle.axlab_core.specs.Input.{Comes, OfLab, OfWords, call_of};
 ghost use Rattle.axlab_core.specs.Loading.{Refuses, Denies};
 ghost use Rattle.axlab_core.specs.Outcome.{Ends, IsUnread, LeftOff, OnAnswered, OnWriteFault, OnReadFault, OnNoMemory, IfRefused, IfDenied, OnUnwritten, OnOther, Wrote};
@@ -17,7 +19,7 @@ ghost use Rattle.axlab_core.specs.WordList.{word_list};
 ghost use Rattle.axlab_core.specs.Words.{form_of, lab_name, second_name, needs_lab};
 ghost use Rattle.axlab_core.specs.declared.words.Form.TheVariants as forms;
 
-use crate::load::{LoadError, Loaded, load_input};
+use crate::load::{Loaded, load_input};
 use crate::output::{Hindrance, Output, deliver};
 use crate::telling::tell;
 use crate::world::Watched;
@@ -116,9 +118,7 @@ fn answer_lab<L: Library, O: Sink>(
             let served = serve(alloc, command, &loaded, notes, bench);
             deliver(alloc, served, out)
         }
-        Err(LoadError::Refused(refusal)) => Status::Refused(refusal),
-        Err(LoadError::Unread) => Status::ReadFault,
-        Err(LoadError::NoMemory) => Status::NoMemory,
+        Err(error) => error.status(),
     }
 }
 
@@ -191,6 +191,11 @@ pub fn axlab<L: Library, O: Sink, E: Sink>(
     ensures refused { IfRefused result (λ refusal. Comes (call_of (word_list words.now) (⟦<Bench as Watched<L, O>>⟧.world bench.old files.old out.old)) (Err (Refuses refusal))) }
     ensures denied { IfDenied result (λ line. Comes (call_of (word_list words.now) (⟦<Bench as Watched<L, O>>⟧.world bench.old files.old out.old)) (Err (Denies line))) }
     ensures write_fault { OnWriteFault result (Rose (O.faults out.old) (O.faults out.new)) }
+
+    // Whatever the answer, files are read in their order, and players advanced no more often than the
+    // work allows.
+    ensures reads { ReadsInOrder (call_of (word_list words.now) (⟦<Bench as Watched<L, O>>⟧.world bench.old files.old out.old)) (⟦<Bench as Watched<L, O>>⟧.world bench.new files.new out.new) }
+    ensures bounded { IsBounded (call_of (word_list words.now) (⟦<Bench as Watched<L, O>>⟧.world bench.old files.old out.old)) (⟦<Bench as Watched<L, O>>⟧.world bench.new files.new out.new) }
 
     // What is held must be answered, or stopped so, unless memory or a port fails.
     ensures complete { MustAnswer (call_of (word_list words.now) (⟦<Bench as Watched<L, O>>⟧.world bench.old files.old out.old)) (⟦<Bench as Watched<L, O>>⟧.world bench.new files.new out.new) result }

@@ -1,6 +1,7 @@
 //! The second file of a command.
-ghost use Rattle.std.specs.Prelude.{◌≡◌, ◌≤◌, ◌^◌, Ok, Err, IfOk, IfErr};
+ghost use Rattle.std.specs.Prelude.{◌≡◌, ◌≤◌, ◌^◌, ◌++◌, Ok, Err, IfOk, IfErr};
 ghost use Rattle.lab_ports.specs.Causes.{Rose};
+ghost use Rattle.axlab_core.specs.Files.{second_file};
 ghost use Rattle.axlab_core.specs.Input.{longest, second_of, second_role};
 ghost use Rattle.axlab_core.specs.Loading.{IsTold};
 ghost use Rattle.axlab_core.specs.Steps.{Explains, ReadsSecond};
@@ -78,12 +79,14 @@ fn second_of(role: FileRole, bytes: Vec<u8>) -> Result<Second, Refusal>
 }
 
 /// What the second file gives, where the command has one.
+#[tactic(auto, using(crate::proofs::Asking::asked_no_second, crate::proofs::Asking::asked_second))]
 pub(crate) fn read_second<L: Library>(
     alloc: Global,
     command: Command,
     name: &str,
     files: &mut L,
 ) -> Result<Second, LoadError>
+    ensures asked { L.asked files.new ≡ L.asked files.old ++ second_file command name.now }
     ensures reads { IfOk result (λ second. ReadsSecond command name.now (L.holding files.old) (Ok second)) }
     ensures stops { IfErr result (λ error. Explains error (Rose (L.faults files.old) (L.faults files.new)) (IsTold (L.holding files.old)) (λ stop. ReadsSecond command name.now (L.holding files.old) (Err stop))) }
 {

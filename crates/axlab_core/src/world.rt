@@ -19,6 +19,7 @@ impl<L: Library, O: Sink> Watched<L, O> for Bench {
         right = map (λ p. (Player-box p).state p.value) bench.right.items;
       };
       holding = L.holding files;
+      asked = L.asked files;
       read_faults = L.faults files;
       taken = O.taken out;
       write_faults = O.faults out;

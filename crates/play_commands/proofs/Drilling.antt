@@ -19,7 +19,7 @@ use Rattle.play_commands.specs.Contestants.{entrant_of}
 use Rattle.play_commands.specs.Entrants.{Entrant}
 use Rattle.lab_report.specs.Valid.{drill_game}
 use Rattle.lab_file.specs.Tournament.{TournamentsAscend, tournament_pairs}
-use Rattle.round_robin.specs.Asked.{Turns, AreAsked}
+use Rattle.round_robin.specs.Asked.{Turns, AreAsked, AtMostTurns, most_for}
 use Rattle.round_robin.specs.Totals.{AreLines}
 use Rattle.play_commands.specs.Machines.{AreMachines, AreStill, drill_job, drill_pairs, machine_strategies, still}
 use Rattle.play_commands.proofs.Contesting.{are_pairs_of, same_strategies}
@@ -150,3 +150,10 @@ module _ (players right : List Lasting) (fits : SidesFit players right) (sheets 
       let P : List Strategy → Type 0 = λ ss. AreAsked ss drill_job.turns drill_pairs before now in
       let Q : List (ℕ × ℕ) → Type 0 = λ ps. AreAsked (strategies_of players contestants) drill_job.turns ps before now in
       subst P strategies_are (subst Q pairs_same asked)
+
+  pub most_known : (before now : Turns) → AtMostTurns (most_for (strategies_of players contestants) pairs) before now
+      → AtMostTurns (most_for (machine_strategies players sheets) drill_pairs) before now
+  most_known before now most =
+      let P : List Strategy → Type 0 = λ ss. AtMostTurns (most_for ss drill_pairs) before now in
+      let Q : List (ℕ × ℕ) → Type 0 = λ ps. AtMostTurns (most_for (strategies_of players contestants) ps) before now in
+      subst P strategies_are (subst Q pairs_same most)

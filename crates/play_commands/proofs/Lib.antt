@@ -9,5 +9,6 @@ pub mod Points
 pub mod Reports
 pub mod Ruled
 pub mod Showing
+pub mod Sparing
 pub mod TableLines
 pub mod Tables

@@ -2,6 +2,7 @@ pub mod ByRule
 pub mod Contestants
 pub mod Entrants
 pub mod Machines
+pub mod MayAsk
 pub mod Ready
 pub mod RightDrill
 pub mod RightLine

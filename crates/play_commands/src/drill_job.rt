@@ -12,6 +12,7 @@ ghost use Rattle.lab_report.specs.Text.{report_text};
 ghost use Rattle.lab_report.specs.Valid.{IsValid, drill_game};
 ghost use Rattle.drill.specs.Drill.{drill_name};
 ghost use Rattle.play_commands.specs.Machines.{AreMachines, AreStill, IsSmallTotal, drill_job, drill_pairs, first_of, is_first, line_at, machine_strategies, sum_of_totals, total_at};
+ghost use Rattle.play_commands.specs.MayAsk.{MayAskDrill, MayAskMachines, UpTo};
 ghost use Rattle.play_commands.specs.RightDrill.{IsAskedDrill, IsRightDrill};
 
 use drill::{drill_name, drill_sheets};
@@ -55,6 +56,7 @@ fn results(alloc: Global, sheets: &[Sheet], bench: &mut Bench) -> Result<Totals,
     requires machines { AreMachines sheets.now }
     ensures lines { IfOk result (λ totals. AreLines (machine_strategies (players_of (⟦<Bench as Seen>⟧.view bench.old)) sheets.now) drill_game drill_job.turns drill_pairs totals.matches) }
     ensures entries { IfOk result (λ totals. totals.entries ≡ entries_of (length sheets.now) totals.matches) }
+    ensures most { MayAskMachines (⟦<Bench as Seen>⟧.view bench.old) (⟦<Bench as Seen>⟧.view bench.new) sheets.now }
     ensures asked { IfOk result (λ _. AreAsked (machine_strategies (players_of (⟦<Bench as Seen>⟧.view bench.old)) sheets.now) drill_job.turns drill_pairs (bench_turns (⟦<Bench as Seen>⟧.view bench.old)) (bench_turns (⟦<Bench as Seen>⟧.view bench.new))) }
     ensures kept { KeepsBench (⟦<Bench as Seen>⟧.view bench.old) (⟦<Bench as Seen>⟧.view bench.new) }
 {
@@ -143,6 +145,7 @@ pub fn drill(alloc: Global, number: u64, bench: &mut Bench) -> Result<Report, No
     requires { Fits (⟦<Bench as Seen>⟧.view bench.old) }
     ensures right { IfOk result (λ report. IsRightDrill (players_of (⟦<Bench as Seen>⟧.view bench.old)) number (report_text report)) }
     ensures valid { IfOk result IsValid }
+    ensures most { UpTo (⟦<Bench as Seen>⟧.view bench.old) (⟦<Bench as Seen>⟧.view bench.new) (MayAskDrill (⟦<Bench as Seen>⟧.view bench.old) (⟦<Bench as Seen>⟧.view bench.new) number) }
     ensures asked { IfOk result (λ _. IsAskedDrill (⟦<Bench as Seen>⟧.view bench.old) (⟦<Bench as Seen>⟧.view bench.new) number) }
     ensures kept { KeepsBench (⟦<Bench as Seen>⟧.view bench.old) (⟦<Bench as Seen>⟧.view bench.new) }
 {

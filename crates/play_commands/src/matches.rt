@@ -13,6 +13,7 @@ ghost use Rattle.lab_file.specs.Notes.{AreNoted};
 ghost use Rattle.lab_file.specs.Sure.{entry_is_sure};
 ghost use Rattle.lab_file.specs.Limits.{match_limits, limits_of};
 ghost use Rattle.play_commands.specs.Entrants.{IsEntrant};
+ghost use Rattle.play_commands.specs.MayAsk.{MayAskBetween, MayAskMatch, UpTo};
 ghost use Rattle.play_commands.specs.RightLine.{IsAskedBetween, IsRightBetween};
 ghost use Rattle.play_commands.specs.RightMatch.{IsAskedMatch, IsRightMatch};
 ghost use Rattle.play_commands.specs.Ready.{IsReadyEntry};
@@ -91,6 +92,7 @@ fn job_line(
     requires noted { AreNoted notes.now.items lab.now.entries }
     ensures right { IfOk result (IsRightBetween (players_of (⟦<Bench as Seen>⟧.view bench.old)) lab.now job.now.left job.now.right job.now.turns) }
     ensures showable { IfOk result (IsShowable lab.now.game) }
+    ensures most { UpTo (⟦<Bench as Seen>⟧.view bench.old) (⟦<Bench as Seen>⟧.view bench.new) (MayAskBetween (⟦<Bench as Seen>⟧.view bench.old) (⟦<Bench as Seen>⟧.view bench.new) lab.now job.now.left job.now.right) }
     ensures asked { IfOk result (λ _. IsAskedBetween (⟦<Bench as Seen>⟧.view bench.old) (⟦<Bench as Seen>⟧.view bench.new) lab.now job.now.left job.now.right job.now.turns) }
     ensures kept { KeepsBench (⟦<Bench as Seen>⟧.view bench.old) (⟦<Bench as Seen>⟧.view bench.new) }
 {
@@ -148,6 +150,7 @@ pub fn lab_match(
     requires noted { AreNoted notes.now.items lab.now.entries }
     ensures right { IfOk result (λ report. IsRightMatch (players_of (⟦<Bench as Seen>⟧.view bench.old)) lab.now (report_text report)) }
     ensures valid { IfOk result IsValid }
+    ensures most { UpTo (⟦<Bench as Seen>⟧.view bench.old) (⟦<Bench as Seen>⟧.view bench.new) (MayAskMatch (⟦<Bench as Seen>⟧.view bench.old) (⟦<Bench as Seen>⟧.view bench.new) lab.now) }
     ensures asked { IfOk result (λ _. IsAskedMatch (⟦<Bench as Seen>⟧.view bench.old) (⟦<Bench as Seen>⟧.view bench.new) lab.now) }
     ensures kept { KeepsBench (⟦<Bench as Seen>⟧.view bench.old) (⟦<Bench as Seen>⟧.view bench.new) }
 {

@@ -14,8 +14,9 @@ ghost use Rattle.lab_file.specs.Notes.{AreNoted};
 ghost use Rattle.lab_file.specs.Limits.{tournament_limits, limits_of};
 ghost use Rattle.lab_file.specs.Tournament.{tournament_pairs};
 ghost use Rattle.play_commands.specs.Contestants.{AreFirst, IsContestantOf, names_of};
+ghost use Rattle.play_commands.specs.MayAsk.{MayAskTournament, UpTo};
 ghost use Rattle.play_commands.specs.RightTournament.{IsAskedTournament, IsRightTournament};
-ghost use Rattle.round_robin.specs.OnBench.{AreAskedOn, strategies_on};
+ghost use Rattle.round_robin.specs.OnBench.{AreAskedOn, AtMostForOn, strategies_on};
 ghost use Rattle.play_commands.specs.Ready.{IsReadyEntry};
 
 use crate::matches::entrant;
@@ -99,6 +100,7 @@ fn results(
     ensures lines { IfOk result (λ totals. AreLines (strategies_on (⟦<Bench as Seen>⟧.view bench.old) contestants.now) lab.now.game job.now.turns (tournament_pairs job.now (length lab.now.entries)) totals.matches) }
     ensures entries { IfOk result (λ totals. totals.entries ≡ entries_of (length lab.now.entries) totals.matches) }
     ensures showable { IfOk result (AreResults (length lab.now.entries) lab.now.game) }
+    ensures most { UpTo (⟦<Bench as Seen>⟧.view bench.old) (⟦<Bench as Seen>⟧.view bench.new) (AtMostForOn (⟦<Bench as Seen>⟧.view bench.old) (⟦<Bench as Seen>⟧.view bench.new) contestants.now (tournament_pairs job.now (length lab.now.entries))) }
     ensures asked { IfOk result (λ _. AreAskedOn (⟦<Bench as Seen>⟧.view bench.old) (⟦<Bench as Seen>⟧.view bench.new) contestants.now job.now.turns (tournament_pairs job.now (length lab.now.entries))) }
     ensures kept { KeepsBench (⟦<Bench as Seen>⟧.view bench.old) (⟦<Bench as Seen>⟧.view bench.new) }
 {
@@ -141,6 +143,7 @@ pub fn lab_tournament(
     requires noted { AreNoted notes.now.items lab.now.entries }
     ensures right { IfOk result (λ report. IsRightTournament (players_of (⟦<Bench as Seen>⟧.view bench.old)) lab.now (report_text report)) }
     ensures valid { IfOk result IsValid }
+    ensures most { UpTo (⟦<Bench as Seen>⟧.view bench.old) (⟦<Bench as Seen>⟧.view bench.new) (MayAskTournament (⟦<Bench as Seen>⟧.view bench.old) (⟦<Bench as Seen>⟧.view bench.new) lab.now) }
     ensures asked { IfOk result (λ _. IsAskedTournament (⟦<Bench as Seen>⟧.view bench.old) (⟦<Bench as Seen>⟧.view bench.new) lab.now) }
     ensures kept { KeepsBench (⟦<Bench as Seen>⟧.view bench.old) (⟦<Bench as Seen>⟧.view bench.new) }
 {

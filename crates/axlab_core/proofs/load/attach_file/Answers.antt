@@ -3,6 +3,7 @@ use Rattle.std.proofs.lemmas.Result.{err_from_is_err_and}
 use Rattle.lab_file.specs.declared.lab.Entry.{Entry}
 use Rattle.lab_file.specs.Lab.{LabData, entry_at}
 use Rattle.axlab_core.proofs.Loading.{attaches_file, attaches_ready, explains_file, explains_read, stops_missing, stops_refused}
+use Rattle.axlab_core.proofs.Asking.{asked_file, asked_ready}
 use Rattle.axlab_core.proofs.load.attach_file.Goals as goal
 
 pub returns-in_default-clause-attaches : goal.returns-in_default-clause-attaches
@@ -28,3 +29,23 @@ pub returns-clause-attaches : goal.returns-clause-attaches
 returns-clause-attaches g c =
     let is = ap (λ (l : LabData). (entry_at l.entries c.args.place).draft) (sym c.lab.view_is) ∙ (sym (ap (λ (e : Entry). e.draft) c.at.ensures) ∙ c.in-FromFile.is) in
     attaches_file _ c.args.place c.args.lab.now _ c.in-FromFile.machine c.text.result.now c.in_ok-bytes.bytes.items c.as_slice.result.now is c.text.ensures.value c.in_ok-bytes.ensures.front c.as_slice.ensures.value c.in_ok-attach.ensures.attached
+
+pub returns-in_default-clause-asked : goal.returns-in_default-clause-asked
+returns-in_default-clause-asked g c =
+    let is = ap (λ (l : LabData). (entry_at l.entries c.args.place).draft) (sym c.lab.view_is) ∙ (sym (ap (λ (e : Entry). e.draft) c.at.ensures) ∙ c.in_default.is) in
+    asked_ready _ _ _ is tt
+
+pub returns-in_err-bytes-clause-asked : goal.returns-in_err-bytes-clause-asked
+returns-in_err-bytes-clause-asked g c =
+    let is = ap (λ (l : LabData). (entry_at l.entries c.args.place).draft) (sym c.lab.view_is) ∙ (sym (ap (λ (e : Entry). e.draft) c.at.ensures) ∙ c.in-FromFile.is) in
+    asked_file _ _ c.text.result.now _ c.in-FromFile.machine is c.text.ensures.value c.in_err-bytes.ensures.asked
+
+pub returns-in_err-attach-clause-asked : goal.returns-in_err-attach-clause-asked
+returns-in_err-attach-clause-asked g c =
+    let is = ap (λ (l : LabData). (entry_at l.entries c.args.place).draft) (sym c.lab.view_is) ∙ (sym (ap (λ (e : Entry). e.draft) c.at.ensures) ∙ c.in-FromFile.is) in
+    asked_file _ _ c.text.result.now _ c.in-FromFile.machine is c.text.ensures.value c.in_ok-bytes.ensures.asked
+
+pub returns-clause-asked : goal.returns-clause-asked
+returns-clause-asked g c =
+    let is = ap (λ (l : LabData). (entry_at l.entries c.args.place).draft) (sym c.lab.view_is) ∙ (sym (ap (λ (e : Entry). e.draft) c.at.ensures) ∙ c.in-FromFile.is) in
+    asked_file _ _ c.text.result.now _ c.in-FromFile.machine is c.text.ensures.value c.in_ok-bytes.ensures.asked

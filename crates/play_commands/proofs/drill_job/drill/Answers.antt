@@ -6,6 +6,7 @@ use Rattle.lab_report.specs.Valid.{IsTotal}
 use Rattle.play_commands.specs.Machines.{AreMachines}
 use Rattle.play_commands.proofs.DrillReports.{as_many, asked_if, few_pairs, first_few, machines_named, right_drill_if, sum_is_total, whole_sum}
 use Rattle.play_commands.proofs.Drills.{entries_small, first_are, sum_is, totals_are}
+use Rattle.play_commands.proofs.Sparing.{may_drill, nobody}
 use Rattle.play_commands.proofs.drill_job.drill.Goals as goal
 
 pub sum_of_totals-sum-requires-clause-few : goal.sum_of_totals-sum-requires-clause-few
@@ -70,3 +71,18 @@ returns-clause-right g c =
 
 pub returns-clause-asked : goal.returns-clause-asked
 returns-clause-asked g c = asked_if _ _ c.args.number c.as_slice.result.now c.drill_report.result (c.as_slice.ensures.value ∙ c.in_ok-sheets.ensures.sheets) c.in_ok-results.ensures.asked
+
+pub returns-in_err-sheets-clause-most : goal.returns-in_err-sheets-clause-most
+returns-in_err-sheets-clause-most g c = nobody _ _
+
+pub returns-in_err-results-clause-most : goal.returns-in_err-results-clause-most
+returns-in_err-results-clause-most g c = may_drill _ _ c.args.number c.as_slice.result.now (c.as_slice.ensures.value ∙ c.in_ok-sheets.ensures.sheets) c.in_err-results.ensures.most
+
+pub returns-in_err-first-clause-most : goal.returns-in_err-first-clause-most
+returns-in_err-first-clause-most g c = may_drill _ _ c.args.number c.as_slice.result.now (c.as_slice.ensures.value ∙ c.in_ok-sheets.ensures.sheets) c.in_ok-results.ensures.most
+
+pub returns-in_err-names-clause-most : goal.returns-in_err-names-clause-most
+returns-in_err-names-clause-most g c = may_drill _ _ c.args.number c.as_slice.result.now (c.as_slice.ensures.value ∙ c.in_ok-sheets.ensures.sheets) c.in_ok-results.ensures.most
+
+pub returns-clause-most : goal.returns-clause-most
+returns-clause-most g c = may_drill _ _ c.args.number c.as_slice.result.now (c.as_slice.ensures.value ∙ c.in_ok-sheets.ensures.sheets) c.in_ok-results.ensures.most

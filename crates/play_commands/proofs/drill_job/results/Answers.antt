@@ -1,6 +1,7 @@
-use Rattle.std.proofs.Common.{ap, sym, ◌∙◌}
+use Rattle.std.proofs.Common.{ap, inr, sym, ◌∙◌}
 use Rattle.result_lines.specs.Totals.{entries_of}
-use Rattle.play_commands.proofs.Drilling.{ArePlayed, asked_known, known_contestants, known_pairs, known_turns, lines_known, many_contestants}
+use Rattle.play_commands.proofs.Drilling.{ArePlayed, asked_known, known_contestants, known_pairs, known_turns, lines_known, many_contestants, most_known}
+use Rattle.play_commands.proofs.Sparing.{nobody}
 use Rattle.play_commands.proofs.drill_job.results.Goals as goal
 
 pub totals-requires-clause-contestants : goal.totals-requires-clause-contestants
@@ -56,3 +57,27 @@ returns-clause-asked g c =
       pairs_are = c.deref-2.ensures.value ∙ c.in_ok-pairs.ensures.pairs;
     } in
     asked_known _ _ c.requires.fits c.args.sheets.now c.deref.result.now c.deref-2.result.now p _ _ c.in_ok-results.ensures.asked
+
+pub returns-in_err-contestants-clause-most : goal.returns-in_err-contestants-clause-most
+returns-in_err-contestants-clause-most g c = nobody _ _
+
+pub returns-in_err-pairs-clause-most : goal.returns-in_err-pairs-clause-most
+returns-in_err-pairs-clause-most g c = nobody _ _
+
+pub returns-in_err-results-clause-most : goal.returns-in_err-results-clause-most
+returns-in_err-results-clause-most g c =
+    let p : ArePlayed c.args.sheets.now c.deref.result.now c.deref-2.result.now = record {
+      machines = c.requires.machines;
+      still = rw c.deref.ensures.value c.in_ok-contestants.ensures;
+      pairs_are = c.deref-2.ensures.value ∙ c.in_ok-pairs.ensures.pairs;
+    } in
+    inr (most_known _ _ c.requires.fits c.args.sheets.now c.deref.result.now c.deref-2.result.now p _ _ c.in_err-results.ensures.most)
+
+pub returns-clause-most : goal.returns-clause-most
+returns-clause-most g c =
+    let p : ArePlayed c.args.sheets.now c.deref.result.now c.deref-2.result.now = record {
+      machines = c.requires.machines;
+      still = rw c.deref.ensures.value c.in_ok-contestants.ensures;
+      pairs_are = c.deref-2.ensures.value ∙ c.in_ok-pairs.ensures.pairs;
+    } in
+    inr (most_known _ _ c.requires.fits c.args.sheets.now c.deref.result.now c.deref-2.result.now p _ _ c.in_ok-results.ensures.most)

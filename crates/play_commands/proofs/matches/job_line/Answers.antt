@@ -1,8 +1,9 @@
-use Rattle.std.proofs.Common.{ap}
+use Rattle.std.proofs.Common.{ap, inr}
 use Rattle.lab_file.specs.Lab.{LabData}
 use Rattle.play_commands.proofs.ByRule.{right_between}
 use Rattle.play_commands.proofs.Entries.{entrant_known, sure_pair}
 use Rattle.play_commands.proofs.Showing.{line_showable}
+use Rattle.play_commands.proofs.Sparing.{nobody}
 use Rattle.play_commands.proofs.matches.job_line.Goals as goal
 
 pub match_line-requires-clause-left_known : goal.match_line-requires-clause-left_known
@@ -35,3 +36,26 @@ returns-clause-showable g c =
     (record { sheet = c.entrant-left.result.sheet.now; noise = c.entrant-left.result.noise }) (record { sheet = c.entrant-right.result.sheet.now; noise = c.entrant-right.result.noise })
     c.args.lab.now.game _ _ c.args.job.now.turns c.in_ok-line.line c.unsigned.ensures.game (ap (λ (l : LabData). l.game) c.lab.view_is) (ap (λ (l : LabData). l.game) c.lab.view_is)
     c.requires.sound.some_turns c.requires.sound.few_turns c.in_ok-line.ensures.turns (rw (c.ends.ensures.lo, c.ends.ensures.hi) at c.ends.ensures.ordered) (rw (c.ends-2.ensures.lo, c.ends-2.ensures.hi) at c.ends-2.ensures.ordered) c.in_ok-line.ensures.line
+
+pub returns-in_err-trail-clause-most : goal.returns-in_err-trail-clause-most
+returns-in_err-trail-clause-most g c = nobody _ _
+
+pub returns-in_err-line-clause-most : goal.returns-in_err-line-clause-most
+returns-in_err-line-clause-most g c =
+    (inr (record {
+      left = record { sheet = c.entrant-left.result.sheet.now; noise = c.entrant-left.result.noise };
+      right = record { sheet = c.entrant-right.result.sheet.now; noise = c.entrant-right.result.noise };
+      left_is = c.entrant-left.ensures.is;
+      right_is = c.entrant-right.ensures.is;
+      most = c.in_err-line.ensures.most;
+    }))
+
+pub returns-clause-most : goal.returns-clause-most
+returns-clause-most g c =
+    (inr (record {
+      left = record { sheet = c.entrant-left.result.sheet.now; noise = c.entrant-left.result.noise };
+      right = record { sheet = c.entrant-right.result.sheet.now; noise = c.entrant-right.result.noise };
+      left_is = c.entrant-left.ensures.is;
+      right_is = c.entrant-right.ensures.is;
+      most = c.in_ok-line.ensures.most;
+    }))

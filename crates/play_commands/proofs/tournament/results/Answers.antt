@@ -1,9 +1,10 @@
-use Rattle.std.proofs.Common.{length, ap, ◌∙◌}
+use Rattle.std.proofs.Common.{length, ap, inr, ◌∙◌}
 use Rattle.result_lines.specs.Totals.{entries_of}
 use Rattle.lab_file.specs.Lab.{LabData}
 use Rattle.lab_file.specs.Tournament.{tournament_pairs}
 use Rattle.play_commands.proofs.Contesting.{are_contestants, are_pairs, are_pairs_of, are_few_turns, few_turns_of}
 use Rattle.play_commands.proofs.TableLines.{results_shown_on}
+use Rattle.play_commands.proofs.Sparing.{may_pairs, nobody}
 use Rattle.play_commands.proofs.tournament.results.Goals as goal
 
 pub totals-requires-clause-contestants : goal.totals-requires-clause-contestants
@@ -37,3 +38,14 @@ pub returns-clause-asked : goal.returns-clause-asked
 returns-clause-asked g c =
     rw (← (c.deref.ensures.value ∙ c.in_ok-pairs.ensures.pairs ∙ ap (tournament_pairs c.args.job.now) (c.len.ensures ∙ ap (λ (l : LabData). length l.entries) c.lab.view_is)))
     c.in_ok-results.ensures.asked
+
+pub returns-in_err-pairs-clause-most : goal.returns-in_err-pairs-clause-most
+returns-in_err-pairs-clause-most g c = nobody _ _
+
+pub returns-in_err-results-clause-most : goal.returns-in_err-results-clause-most
+returns-in_err-results-clause-most g c = inr (may_pairs _ _ c.args.contestants.now c.deref.result.now _
+    (c.deref.ensures.value ∙ c.in_ok-pairs.ensures.pairs ∙ ap (tournament_pairs c.args.job.now) (c.len.ensures ∙ ap (λ (l : LabData). length l.entries) c.lab.view_is)) c.in_err-results.ensures.most)
+
+pub returns-clause-most : goal.returns-clause-most
+returns-clause-most g c = inr (may_pairs _ _ c.args.contestants.now c.deref.result.now _
+    (c.deref.ensures.value ∙ c.in_ok-pairs.ensures.pairs ∙ ap (tournament_pairs c.args.job.now) (c.len.ensures ∙ ap (λ (l : LabData). length l.entries) c.lab.view_is)) c.in_ok-results.ensures.most)
