@@ -1,20 +1,13 @@
-//! Worked rows of the top call, as tests: what it prints and tells over files and sinks in memory,
-//! which labs it refuses and where, and which benches it takes.
+//! Tests alone: the top call over files and sinks in memory. Each command has a row here, with how often files
+//! were read and players advanced, and so have what the ports fail in and the pieces of a report. All other rows
+//! are files in rows/, on which the program runs.
 #![tactic(auto)]
 
 #[cfg(test)]
-mod benches;
-#[cfg(test)]
 mod call;
 #[cfg(test)]
-mod hostile;
+mod commands;
 #[cfg(test)]
-mod long;
+mod faults;
 #[cfg(test)]
-mod machine_files;
-#[cfg(test)]
-mod mixed;
-#[cfg(test)]
-mod rows;
-#[cfg(test)]
-mod tournaments;
+mod pieces;

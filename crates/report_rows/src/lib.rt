@@ -1,6 +1,6 @@
-//! Reports both ways, as a test: texts that were worked out by hand are made, read and refused; one byte
-//! after the other is changed, and what is read is compared with what a small reader makes of it; and the
-//! largest report goes both ways.
+//! Tests alone: reports both ways. Texts that were worked out by hand are made, read and refused; one byte after
+//! the other is changed, and what is read is compared with what a small reader makes of it; and the largest
+//! report goes both ways.
 #![tactic(auto)]
 
 #[cfg(test)]
