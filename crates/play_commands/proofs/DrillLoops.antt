@@ -96,7 +96,3 @@ still_more sheets contestants more contestant k d inside is new so_far =
     ∙ append_assoc (entrants_of contestants) (entrant_of contestant ∷ []) rest
     ∙ ap (λ (e : Entrant). entrants_of contestants ++ e ∷ rest) is
     ∙ ap (λ (ss : List SheetData). entrants_of contestants ++ map still ss) (sym cut) ∙ so_far
-
-pub sure_more : (contestants more : List Contestant) (contestant : Contestant) → contestant.sure ≡ true → more ≡ contestants ++ contestant ∷ []
-    → All (λ c. c.sure ≡ true) contestants → All (λ c. c.sure ≡ true) more
-sure_more contestants more contestant is new all = rw new (All-push (λ (c : Contestant). c.sure ≡ true) contestants contestant all is)
