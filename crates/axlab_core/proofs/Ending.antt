@@ -6,7 +6,7 @@ use Rattle.player_core.specs.Counts.{turns_of}
 use Rattle.player_core.specs.declared.bench.PlugNote.{PlugNote}
 use Rattle.player_core.specs.Bench.{NoResumesFell, SameTurns, notes_of}
 use Rattle.lab_ports.specs.Causes.{Rose}
-use Rattle.lab_ports.specs.Holding.{Grew, GrewByPart}
+use Rattle.lab_ports.specs.Holding.{Holding, Grew, GrewByPart}
 use Rattle.refusals.specs.declared.refusal.Refusal.TheVariants.{NotBuilt}
 use Rattle.lab_file.specs.declared.command.Command.{Command}
 use Rattle.lab_file.specs.declared.command.Command.TheVariants as commands
@@ -19,7 +19,7 @@ use Rattle.axlab_core.specs.declared.status.Status.{Status}
 use Rattle.axlab_core.specs.declared.status.Status.TheVariants.{Answered, Denied, Usage, ReadFault, Refused, WriteFault, NoMemory}
 use Rattle.axlab_core.specs.declared.words.Form.{Form}
 use Rattle.axlab_core.specs.declared.words.Form.TheVariants.{Lab, Drill, Unbuilt, Faulty}
-use Rattle.axlab_core.specs.Input.{Input, OfLab, OfWords, Call, Comes, Finds, call_of, found_by, players, tested}
+use Rattle.axlab_core.specs.Input.{Input, Names, OfLab, OfWords, Call, Comes, Finds, call_of, found_by, players, tested}
 use Rattle.axlab_core.specs.Loading.{Stop, Missing, Refuses, Denies, ◌>>=◌, IsTold}
 use Rattle.axlab_core.specs.Files.{AskedInOrder, ReadsInOrder}
 use Rattle.play_commands.specs.MayAsk.{MayAskMatch, MayAskTournament, UpTo}
@@ -69,12 +69,13 @@ comes_lab call command notes stop is noted loads =
     let found : found_by call loads.given ≡ Err stop = rw is (rw noted at loads.is) in
     record { given = loads.given; is = ap (λ r. r >>= λ i. tested call.form (players call) i) found }
 
-pub reads_none : (call : Call) (after : World) → after.asked ≡ call.before.asked → ReadsInOrder call after
-reads_none call after same = record { given = []; front = front_none _ _ _ same }
+pub reads_none : (form : Form) (names : Names) (notes : List PlugNote) (holding : Option Holding) (before now : List (List ℕ)) → now ≡ before
+    → AskedInOrder form names notes holding before now
+reads_none form names notes holding before now same = record { given = []; front = front_none _ _ _ same }
 
-pub reads_of_lab : (call : Call) (after : World) (command : Command) (notes : List PlugNote) → call.form ≡ Lab command → notes ≡ notes_of (players call)
-    → AskedInOrder (Lab command) call.names notes call.before.holding call.before.asked after.asked → ReadsInOrder call after
-reads_of_lab call after command notes is noted asked = rw is (rw noted at asked)
+pub reads_of_lab : (form : Form) (command : Command) (names : Names) (notes plugs : List PlugNote) (holding : Option Holding) (before now : List (List ℕ))
+    → form ≡ Lab command → notes ≡ plugs → AskedInOrder (Lab command) names notes holding before now → AskedInOrder form names plugs holding before now
+reads_of_lab form command names notes plugs holding before now is noted asked = rw is (rw noted at asked)
 
 -- ---- how often players are asked
 
@@ -176,13 +177,13 @@ untouched call after bench taken = record {
 
 pub ends_faulty : (call : Call) (after : World) → call.form ≡ Faulty → after.bench ≡ call.before.bench → after.taken ≡ call.before.taken → after.asked ≡ call.before.asked
     → Ends call after Usage
-ends_faulty call after is bench taken asked = record { by = (is, untouched call after bench taken); reads = reads_none call after asked }
+ends_faulty call after is bench taken asked = record { by = (is, untouched call after bench taken); reads = reads_none _ _ _ _ _ _ asked }
 
 pub ends_unbuilt : (call : Call) (after : World) → call.form ≡ Unbuilt → after.bench ≡ call.before.bench → after.taken ≡ call.before.taken
     → after.asked ≡ call.before.asked → Ends call after (Refused NotBuilt)
 ends_unbuilt call after is bench taken asked = record {
   by = (record { given = record { lab = []; machines = []; second = [] }; is = rw is refl }, untouched call after bench taken);
-  reads = reads_none call after asked;
+  reads = reads_none _ _ _ _ _ _ asked;
 }
 
 -- no memory for the notes of the plugs
@@ -190,7 +191,7 @@ pub ends_unnoted : (call : Call) (after : World) (command : Command) → call.fo
     → after.taken ≡ call.before.taken → after.asked ≡ call.before.asked → Ends call after NoMemory
 ends_unnoted call after command is turns taken asked = record {
   by = (rw is tt, inl (record { taken = taken; bounded = inl turns }));
-  reads = reads_none call after asked;
+  reads = reads_none _ _ _ _ _ _ asked;
 }
 
 -- the files couldn't be loaded

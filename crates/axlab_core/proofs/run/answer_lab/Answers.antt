@@ -9,11 +9,11 @@ returns-in-Ok-clause-ends g c =
     delivers_as _ _ (OfLab c.in-Ok.loaded.lab c.in-Ok.loaded.second) c.serve-served.result c.deliver.result (Lab c.args.command) c.requires.form
     (reads_lab_input _ c.args.command c.args.notes.now.items _ c.requires.form c.requires.notes (rw (c.lab_name.ensures, c.second_name.ensures) at c.in-Ok.ensures.loads))
     c.serve-served.ensures.served c.deliver.ensures
-    (reads_of_lab _ _ c.args.command c.args.notes.now.items c.requires.form c.requires.notes (rw (c.lab_name.ensures, c.second_name.ensures) at c.in-Ok.ensures.asked))
+    (reads_of_lab _ c.args.command _ c.args.notes.now.items _ _ _ _ c.requires.form c.requires.notes (rw (c.lab_name.ensures, c.second_name.ensures) at c.in-Ok.ensures.asked))
 
 pub returns-in-Err-clause-ends : goal.returns-in-Err-clause-ends
 returns-in-Err-clause-ends g c =
     rw c.status.ensures
     (ends_unloaded _ _ c.args.command c.args.notes.now.items c.in-Err.error c.requires.form c.requires.notes
     (rw (c.lab_name.ensures, c.second_name.ensures) at c.in-Err.ensures.stops) refl refl
-    (reads_of_lab _ _ c.args.command c.args.notes.now.items c.requires.form c.requires.notes (rw (c.lab_name.ensures, c.second_name.ensures) at c.in-Err.ensures.asked)))
+    (reads_of_lab _ c.args.command _ c.args.notes.now.items _ _ _ _ c.requires.form c.requires.notes (rw (c.lab_name.ensures, c.second_name.ensures) at c.in-Err.ensures.asked)))

@@ -13,4 +13,4 @@ returns-in-Unbuilt-clause-ends g c = ends_unbuilt _ _ (sym c.in-Unbuilt.ensures)
 pub returns-in-Drill-clause-ends : goal.returns-in-Drill-clause-ends
 returns-in-Drill-clause-ends g c =
     delivers_as _ _ OfWords c.serve_drill-served.result c.deliver.result (Drill c.in-Drill.number) (sym c.in-Drill.ensures)
-    (reads_words _ c.in-Drill.number (sym c.in-Drill.ensures)) c.serve_drill-served.ensures.served c.deliver.ensures (reads_none _ _ refl)
+    (reads_words _ c.in-Drill.number (sym c.in-Drill.ensures)) c.serve_drill-served.ensures.served c.deliver.ensures (reads_none _ _ _ _ _ _ refl)
