@@ -8,4 +8,4 @@ mod player;
 mod rows;
 
 pub use laws::tables_follow_their_rule;
-pub use player::LookupPlayer;
+pub use player::{LookupPlayer, TableRows};

@@ -9,10 +9,7 @@ ghost use Rattle.player_core.specs.Table.{base, row_of_seen, seen_after, table_a
 use crate::known::{Known, depth, firsts, known_after, known_at, others, owns, row_of_known};
 use history_model::{GridRow, Move};
 use player_core::laws::rows_are_held;
-use player_core::{Kind, Sheet};
-
-/// Room for the rows of every automaton. A table has at most 457.
-pub const ROOM: usize = 512;
+use player_core::{Kind, ROOM, Sheet};
 
 // How many rows stand for up to so many turns.
 fn rows_up_to(sheet: &Sheet, turns: u32, fewer: u32) -> u32

@@ -6,4 +6,4 @@ mod laws;
 mod player;
 
 pub use laws::machines_follow_their_rule;
-pub use player::MachinePlayer;
+pub use player::{MachinePlayer, MachineRows};

@@ -1,44 +1,37 @@
 //! The player of machines.
-ghost use Rattle.std.specs.Prelude.{◌≡◌, ◌<◌, ◌≤◌, ◌*◌, IfOk, length, map, take};
-ghost use Rattle.history_model.specs.Automaton.{IsAutomaton, plain_row, row_at};
+ghost use Rattle.std.specs.Prelude.{◌≡◌, ◌<◌, ◌≤◌, ◌*◌, length, map, take};
+ghost use Rattle.history_model.specs.Automaton.{IsAutomaton, plain_row};
 ghost use Rattle.player_core.specs.AutomatonOf.{entered, machine_automaton, machine_place, machine_row};
-ghost use Rattle.player_core.specs.Holder.{without_sheet};
 ghost use Rattle.player_core.specs.Sheet.{IsMachine, states};
-ghost use Rattle.player_core.specs.State.{IsState};
 
-use history_model::{GridRow, Move, Name, NoMemory};
+use history_model::GridRow;
 use player_core::laws::rows_are_held;
-use player_core::{Kind, Player, Sheet, no_name};
-use std::alloc::Global;
-use std::marker::Model;
+use player_core::{Front, Kind, ROOM, Sheet, SheetPlayer, SheetRows};
 
-// Room for the rows of every automaton: two for each of 256 states.
-const ROOM: usize = 512;
+/// A player of finite machines, as the Axelrod library's finite state machines are.
+pub type MachinePlayer = SheetPlayer<MachineRows>;
 
-/// A player of finite machines, as the Axelrod library's finite state machines are. It makes room
-/// for its rows when it is made, so no later call takes memory. Contracts see it as a player's state.
+/// Finite machines as rows.
 #[derive(Drop)]
-pub struct MachinePlayer {
-    // The rows in use come first.
-    table: Vec<GridRow>,
-    used: u32,
-    start: u32,
-    mark: u32,
-    turns: u64,
-    returns: u64,
-}
+pub struct MachineRows;
 
-impl Model for MachinePlayer {
-    ghost use Rattle.std.specs.Prelude.{length};
+impl SheetRows for MachineRows {
     ghost use Rattle.player_core.specs.declared.kind.Kind.TheVariants.{Machine};
-    ghost use Rattle.player_core.specs.Holder.{holder, IsHolder};
-    ghost use Rattle.player_core.specs.State.{PlayerState};
 
-    ghost Value = { PlayerState };
+    ghost kind = { Machine };
 
-    ghost view = { λ p. holder Machine 1 p.start p.table.items p.used p.mark p.turns p.returns };
+    fn kind() -> Kind {
+        Kind::Machine
+    }
 
-    ghost invariant = { λ p. IsHolder (holder Machine 1 p.start p.table.items p.used p.mark p.turns p.returns) (length p.table.items) p.used };
+    fn write(table: &mut Vec<GridRow>, sheet: &Sheet) -> Front {
+        let rows = write_rows(table, sheet);
+        Front {
+            den: 1,
+            start: row_place(0, sheet.opening[0]),
+            rows,
+        }
+    }
 }
 
 // The row of a state that is about to play, 1 for C and 0 for D.
@@ -98,93 +91,4 @@ fn write_rows(table: &mut Vec<GridRow>, sheet: &Sheet) -> u32
         table[row] = row_of(sheet, row);
     }
     rows
-}
-
-impl MachinePlayer {
-    /// A player that has taken no sheet yet, and always plays C. It was never advanced or resumed.
-    /// The error is want of room for 512 rows.
-    pub fn new(alloc: Global) -> Result<MachinePlayer, NoMemory>
-        ensures { IfOk result (λ player. player ≡ without_sheet Kind.Machine) }
-    {
-        rows_are_held();
-        let cooperate = GridRow {
-            weight: 1,
-            next: [0; 4],
-        };
-        Ok(MachinePlayer {
-            table: vec![in alloc; cooperate; ROOM]?,
-            used: 1,
-            start: 0,
-            mark: 0,
-            turns: 0,
-            returns: 0,
-        })
-    }
-
-    // The row at the mark.
-    fn row(&self) -> GridRow
-        ensures row { plain_row result ≡ row_at self.now.lasting.automaton self.now.mark }
-        ensures valid { IsState self.now }
-    {
-        self.table[self.mark as usize]
-    }
-}
-
-impl Player for MachinePlayer {
-    ghost state = { λ p. p };
-
-    fn kind(&self) -> Kind {
-        let _mark = self.mark;
-        Kind::Machine
-    }
-
-    fn name(&self) -> Name {
-        let _mark = self.mark;
-        no_name()
-    }
-
-    fn load(&mut self, sheet: &Sheet) {
-        self.used = write_rows(&mut self.table, sheet);
-        self.start = row_place(0, sheet.opening[0]);
-        self.mark = self.start;
-    }
-
-    fn rows(&self) -> u32 {
-        self.used
-    }
-
-    fn start(&self) -> u32 {
-        self.start
-    }
-
-    fn den(&self) -> u32 {
-        let _mark = self.mark;
-        1
-    }
-
-    fn weight(&self) -> u32 {
-        self.row().weight
-    }
-
-    fn advance(&mut self, mine: Move, theirs: Move) {
-        self.mark = self.row().next_after(mine, theirs);
-        self.turns = self.turns.saturating_add(1);
-    }
-
-    fn save(&self) -> u32 {
-        self.mark
-    }
-
-    fn resume(&mut self, mark: u32) {
-        self.mark = mark;
-        self.returns = self.returns.saturating_add(1);
-    }
-
-    fn advances(&self) -> u64 {
-        self.turns
-    }
-
-    fn resumes(&self) -> u64 {
-        self.returns
-    }
 }

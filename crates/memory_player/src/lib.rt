@@ -5,4 +5,4 @@ mod laws;
 mod player;
 
 pub use laws::vectors_follow_their_rule;
-pub use player::MemoryPlayer;
+pub use player::{MemoryPlayer, VectorRows};

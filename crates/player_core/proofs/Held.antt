@@ -44,7 +44,7 @@ cooperator_valid = record {
 
 -- a player that is made of a table of such rows
 fresh_held : (kind : Kind) (table : List GridRow) (turns returns : ℕ) → turns < 2 ^ 64 → returns < 2 ^ 64 → table ≡ replicate 512 cooperate
-    → IsHolder (holder kind 1 0 table 1 0 turns returns) (length table) 1
+    → IsHolder (holder kind (record { den = 1; start = 0; rows = 1 }) table 0 turns returns) (length table) 1
 fresh_held kind table turns returns turns_fit returns_fit made =
     rw made (record {
       valid = record {

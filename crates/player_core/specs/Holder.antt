@@ -3,6 +3,7 @@ use Rattle.std.specs.Prelude.{ℕ, ◌≡◌, ◌+◌, ◌<◌, ◌≤◌, ◌^�
 use Rattle.history_model.specs.declared.grid.GridRow.{GridRow}
 use Rattle.history_model.specs.Automaton.{Automaton, Row, no_row, plain_row}
 use Rattle.player_core.specs.declared.kind.Kind.{Kind}
+use Rattle.player_core.specs.declared.sheet_player.Front.{Front}
 use Rattle.player_core.specs.State.{PlayerState, IsState, no_name}
 
 -- a player of a kind, with no name of its own
@@ -10,10 +11,13 @@ abbrev pub unnamed : Kind → Automaton → ℕ → ℕ → ℕ → PlayerState
 unnamed kind automaton mark turns returns =
     record { lasting = record { kind = kind; name = no_name; automaton = automaton }; mark = mark; turns = turns; returns = returns }
 
--- the rows in use are the first of the table
-abbrev pub holder : Kind → ℕ → ℕ → List GridRow → ℕ → ℕ → ℕ → ℕ → PlayerState
-holder kind den start table used mark turns returns =
-    unnamed kind (record { den = den; start = start; rows = map plain_row (take used table) }) mark turns returns
+-- the automaton at the front of a table
+abbrev pub automaton_in : Front → List GridRow → Automaton
+automaton_in front table = record { den = front.den; start = front.start; rows = map plain_row (take front.rows table) }
+
+-- the player of the automaton at the front of a table
+abbrev pub holder : Kind → Front → List GridRow → ℕ → ℕ → ℕ → PlayerState
+holder kind front table mark turns returns = unnamed kind (automaton_in front table) mark turns returns
 
 -- a player's state, and a table with room for every automaton
 pub record IsHolder (state : PlayerState) (places used : ℕ) : Type 0 where
@@ -40,4 +44,4 @@ pub record RowsAreHeld : Type 0 where
   pub all : (table : List GridRow) (rows : List Row) (k n : ℕ) → k ≡ n → length rows ≡ n
       → map plain_row (take k table) ≡ take k rows → map plain_row (take n table) ≡ rows
   pub new : (kind : Kind) (table : List GridRow) (turns returns : ℕ) → turns < 2 ^ 64 → returns < 2 ^ 64 → table ≡ replicate 512 cooperate
-      → IsHolder (holder kind 1 0 table 1 0 turns returns) (length table) 1
+      → IsHolder (holder kind (record { den = 1; start = 0; rows = 1 }) table 0 turns returns) (length table) 1

@@ -9,6 +9,7 @@ mod places;
 mod player;
 mod reading;
 mod sheet;
+mod sheet_player;
 mod side;
 
 pub use bench::{Bench, PlugNote, Seen};
@@ -18,3 +19,4 @@ pub use places::{load_place, restart};
 pub use player::{Player, Seats, Side};
 pub use reading::{is_sure, tabulate};
 pub use sheet::Sheet;
+pub use sheet_player::{Front, ROOM, SheetPlayer, SheetRows};

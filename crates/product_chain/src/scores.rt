@@ -17,10 +17,10 @@ use history_model::{
 use std::alloc::Global;
 
 /// What both sides expect to score in a match of `turns` turns, 1 to 10,000: the left side's span
-/// first, both in units of 10^-12. The spans hold the exact fractions, are at most `turns` wide, and
-/// mostly at most 2; they are points where neither side draws lots and no move is flipped. The chain
-/// goes over all pairs of rows in each turn, and takes 48 bytes a pair at most; its only error is want
-/// of memory.
+/// first, both in units of 10^-12. The spans hold the exact fractions, lie between what the least and
+/// the greatest payoff give, and are at most `turns` wide; where the chain counts in finer parts, they
+/// are narrower (`IsTight`). Of one turn both ends are less than one unit off, and where neither side
+/// draws lots and no move is flipped the spans are points. An `Err` is want of memory.
 pub fn expect(
     alloc: Global,
     left: &Grid,

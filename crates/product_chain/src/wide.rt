@@ -104,7 +104,7 @@ pub fn wide_plan_of<'a>(
     })
 }
 
-// Cells that hold nothing.
+// Cells of no turns: each is 0.
 fn no_cells(alloc: Global, rows: usize, width: usize) -> Result<Vec<Vec<u128>>, NoMemory>
     ensures { IfOk result (λ table. AreNone rows width table.items) }
 {

@@ -1,7 +1,7 @@
 use Rattle.std.proofs.Common.{◌≡◌, ◌+◌, length, map, take}
 use Rattle.history_model.specs.Automaton.{plain_row}
 use Rattle.player_core.specs.Table.{table_automaton}
-use Rattle.lookup_player.specs.declared.rows.TheConstants.{ROOM}
+use Rattle.player_core.specs.declared.sheet_player.TheConstants.{ROOM}
 use Rattle.lookup_player.proofs.rows.write_turns.Given as goal
 
 abbrev pub invariant-loop-place : goal.invariant-loop-place

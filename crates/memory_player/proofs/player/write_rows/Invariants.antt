@@ -1,7 +1,7 @@
 use Rattle.std.proofs.Common.{◌≡◌, length, map, take}
 use Rattle.history_model.specs.Automaton.{plain_row}
 use Rattle.player_core.specs.AutomatonOf.{vector_automaton}
-use Rattle.memory_player.specs.declared.player.TheConstants.{ROOM}
+use Rattle.player_core.specs.declared.sheet_player.TheConstants.{ROOM}
 use Rattle.memory_player.proofs.player.write_rows.Given as goal
 
 abbrev pub invariant-loop-place : goal.invariant-loop-place
