@@ -3,6 +3,7 @@ ghost use Rattle.std.specs.Prelude.{◌≡◌, ◌+◌, ◌*◌, ◌≤◌, ◌<
 ghost use Rattle.player_core.specs.State.{IsState, lasting_of, state_at};
 ghost use Rattle.player_core.specs.Fits.{Fits};
 ghost use Rattle.player_core.specs.Entry.{entry_on};
+ghost use Rattle.history_model.specs.Automaton.{IsAutomaton};
 ghost use Rattle.player_core.specs.Bench.{KeepsBench};
 ghost use Rattle.player_core.specs.Counts.{Advanced, side_turns};
 ghost use Rattle.match_play.specs.Known.{IsKnownOn};
@@ -11,7 +12,7 @@ ghost use Rattle.match_play.specs.Match.{ReadAtMostOn, automaton_at};
 use crate::on_bench::place_of;
 use history_model::{Grid, NoMemory};
 use player_core::laws::{counts_add_up, entries_play, keeping_lasts, one_change};
-use player_core::{Bench, Player, Seats, Seen, Sheet, Side, tabulate};
+use player_core::{Bench, Player, Seats, Seen, Sheet, Side, load_place, tabulate};
 use std::alloc::Global;
 
 // The number of rows of a player, which is valid.
@@ -81,4 +82,30 @@ pub fn tabulate_sheets(
     let left_grid = tabulate_at(alloc, &mut bench.left, i)?;
     let right_grid = tabulate_at(alloc, &mut bench.right, j)?;
     Ok((left_grid, right_grid))
+}
+
+/// Reads the automaton that a sheet plays: the left side's player that takes the sheet is given it, and is
+/// then read row by row, with four advances for each row; without memory, at most these. The right side
+/// is not touched. The bench goes on fitting with the same plugs, also without memory.
+///
+/// # Errors
+///
+/// `NoMemory` where the grid finds no memory.
+pub fn tabulate_sheet(alloc: Global, bench: &mut Bench, sheet: &Sheet) -> Result<Grid, NoMemory>
+    requires fits { Fits (⟦<Bench as Seen>⟧.view bench.old) }
+    requires known { IsKnownOn (⟦<Bench as Seen>⟧.view bench.old) sheet.now }
+    ensures grid { IfOk result (λ grid. grid ≡ entry_on (⟦<Bench as Seen>⟧.view bench.old) sheet.now) }
+    ensures valid { IsAutomaton (entry_on (⟦<Bench as Seen>⟧.view bench.old) sheet.now) }
+    ensures advanced { let old = ⟦<Bench as Seen>⟧.view bench.old in IfOk result (λ _. Advanced (4 * length (entry_on old sheet.now).rows) old.left (⟦<Bench as Seen>⟧.view bench.new).left) }
+    ensures most { let old = ⟦<Bench as Seen>⟧.view bench.old in side_turns (⟦<Bench as Seen>⟧.view bench.new).left ≤ side_turns old.left + 4 * length (entry_on old sheet.now).rows }
+    ensures right { (⟦<Bench as Seen>⟧.view bench.new).right ≡ (⟦<Bench as Seen>⟧.view bench.old).right }
+    ensures kept { KeepsBench (⟦<Bench as Seen>⟧.view bench.old) (⟦<Bench as Seen>⟧.view bench.new) }
+{
+    keeping_lasts();
+    entries_play();
+    one_change();
+    counts_add_up();
+    let place = place_of(bench, sheet);
+    load_place(&mut bench.left, place, sheet);
+    tabulate_at(alloc, &mut bench.left, place)
 }

@@ -10,7 +10,7 @@ mod sureness;
 mod trail;
 mod turn_by_turn;
 
-pub use grids::tabulate_sheets;
+pub use grids::{tabulate_sheet, tabulate_sheets};
 pub use history_model::Tally;
 pub use long::play_long;
 pub use long_on_bench::play_sheets_long;

@@ -1,15 +1,13 @@
 -- The loops of a drill: over the places of its machines, and over their lines.
 use Rattle.std.proofs.Common.{◌≡◌, ℕ, suc, ◌+◌, ◌-◌, ◌*◌, ◌^◌, ◌<◌, ◌≤◌, true, false, List, [], ◌∷◌, ◌++◌, length, map, drop, get_or, ℤ, pos, ◌+ℤ◌, ◌≤ℤ◌, refl, sym, ap, ◌∙◌, append_assoc, add-one, drop-cons, arith}
-use Rattle.std.specs.List.{All, filter, range_with_len}
+use Rattle.std.specs.List.{filter, range_with_len}
 use Rattle.std.proofs.lemmas.Int.{ints}
 use Rattle.std.proofs.lemmas.List.{map-append}
-use Rattle.std.proofs.lemmas.List.Elements.{All-push}
 use Rattle.drill.specs.Drill.{drill_name}
 use Rattle.player_core.specs.Sheet.{SheetData}
-use Rattle.round_robin.specs.declared.contestant.Contestant.{Contestant}
+use Rattle.sheet_rules.specs.declared.contestant.Contestant.{Contestant}
 use Rattle.result_lines.specs.declared.tables.EntryLine.{EntryLine}
-use Rattle.play_commands.specs.Contestants.{entrant_of, entrants_of}
-use Rattle.play_commands.specs.Entrants.{Entrant}
+use Rattle.sheet_rules.specs.Entrants.{Entrant, entrant_of, entrants_of}
 use Rattle.play_commands.specs.Machines.{IsSmallTotal, is_first, line_at, still, sum_of_totals, total_at}
 
 range_cut : (a n : ℕ) → a < n → range_with_len a (n - a) ≡ a ∷ range_with_len (a + 1) (n - (a + 1))

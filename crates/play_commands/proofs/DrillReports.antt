@@ -10,19 +10,16 @@ use Rattle.player_core.specs.State.{BenchState, Lasting, players_of}
 use Rattle.player_core.specs.Fits.{SidesFit}
 use Rattle.player_core.specs.Sheet.{SheetData}
 use Rattle.fixed_span.specs.Span.{Fraction}
-use Rattle.result_lines.specs.declared.line.MatchLine.{MatchLine}
 use Rattle.result_lines.specs.declared.tables.EntryLine.{EntryLine}
 use Rattle.round_robin.specs.Asked.{AreAsked, bench_turns}
-use Rattle.result_lines.specs.Totals.{entry_of, entries_of}
 use Rattle.round_robin.specs.Truth.{nothing, true_rank}
 use Rattle.lab_report.specs.declared.report.Report.{Report}
 use Rattle.lab_report.specs.Names.{name_at}
 use Rattle.lab_report.specs.Text.{report_text}
 use Rattle.lab_report.specs.Valid.{IsFirstOf, IsTotal, IsValid, first_names}
 use Rattle.report_making.specs.Made.{ShowsFirst, drill_report_of, first_order, moved_first}
-use Rattle.lab_file.specs.Tournament.{TournamentsAscend}
 use Rattle.drill.specs.Drill.{drill_name, drill_sheets}
-use Rattle.play_commands.specs.Machines.{IsSmallTotal, IsWhole, drill_job, drill_pairs, first_of, first_places, is_first, line_at, machine_strategies, machine_totals, no_line, sum_of, sum_of_totals, total_at}
+use Rattle.play_commands.specs.Machines.{IsSmallTotal, IsTold, IsWhole, drill_job, drill_pairs, first_of, first_places, is_first, line_at, machine_strategies, no_line, sum_of, sum_of_totals, total_at}
 use Rattle.play_commands.specs.RightDrill.{IsAskedDrill, IsRightDrill, drill_totals}
 
 all_below : (n : ℕ) → All (λ place. place < n) (range_with_len 0 n)
@@ -83,29 +80,23 @@ made players number entries names first sum are first_is totals whole valid show
   all = whole;
 }
 
-pub right_drill : (players : List Lasting) (number : ℕ) (sheets : List SheetData) (entries : List EntryLine) (names : List (List ℕ)) (first : List (ℕ × ℤ)) (sum : ℤ) (report : Report)
-    → sheets ≡ drill_sheets number → names ≡ map drill_name (range_with_len 0 64) → first ≡ first_of entries
-    → first_of entries ≡ map (total_at entries) (first_places (machine_totals players sheets))
-    → AreWhole (machine_totals players sheets) (first_of entries) (first_places (machine_totals players sheets)) → IsWhole sum (sum_of (machine_totals players sheets))
-    → report ≡ drill_report_of number names first sum → IsValid report → ShowsFirst names first → IsRightDrill players number (report_text report)
-right_drill players number sheets entries names first sum report drawn are first_is told totals whole is valid shows =
-    let T : List SheetData → Type 0 = λ ss. first_of entries ≡ map (total_at entries) (first_places (machine_totals players ss)) in
-    let W : List SheetData → Type 0 = λ ss. AreWhole (machine_totals players ss) (first_of entries) (first_places (machine_totals players ss)) in
-    let S : List SheetData → Type 0 = λ ss. IsWhole sum (sum_of (machine_totals players ss)) in
-    let F : List (ℕ × ℤ) → Type 0 = λ f. AreWhole (drill_totals players number) f (first_places (drill_totals players number)) in
-    let R : Report → Type 0 = λ r. IsRightDrill players number (report_text r) in
-    subst R (sym is)
-    (made players number entries names first sum are (first_is ∙ subst T drawn told) (subst F (sym first_is) (subst W drawn totals)) (subst S drawn whole)
-    (subst IsValid is valid) shows)
-
 pub right_drill_if : {E : Type 0} (players : List Lasting) (number : ℕ) (sheets : List SheetData) (entries : List EntryLine) (names : List (List ℕ)) (first : List (ℕ × ℤ)) (sum units : ℤ) (made_of : Result Report E)
-    → sheets ≡ drill_sheets number → names ≡ map drill_name (range_with_len 0 64) → first ≡ first_of entries
-    → first_of entries ≡ map (total_at entries) (first_places (machine_totals players sheets))
-    → AreWhole (machine_totals players sheets) (first_of entries) (first_places (machine_totals players sheets)) → IsWhole sum (sum_of (machine_totals players sheets)) → units ≡ sum
+    → sheets ≡ drill_sheets number → names ≡ map drill_name (range_with_len 0 64) → first ≡ first_of entries → IsTold players sheets entries → sum ≡ sum_of_totals entries → units ≡ sum
     → IfOk made_of (λ report. report ≡ drill_report_of number names first units) → IfOk made_of IsValid → IfOk made_of (λ _. ShowsFirst names first) → IfOk made_of (λ report. IsRightDrill players number (report_text report))
-right_drill_if players number sheets entries names first sum units (Ok report) drawn are first_is told totals whole same is valid shows =
-    right_drill players number sheets entries names first sum report drawn are first_is told totals whole (is ∙ ap (drill_report_of number names first) same) valid shows
-right_drill_if players number sheets entries names first sum units (Err error) drawn are first_is told totals whole same is valid shows = tt
+right_drill_if players number sheets entries names first sum units (Ok report) drawn are first_is told sum_is same is valid shows =
+    let T : List SheetData → Type 0 = λ ss. IsTold players ss entries in
+    let truly : IsTold players (drill_sheets number) entries = subst T drawn told in
+    let F : List (ℕ × ℤ) → Type 0 = λ f. AreWhole (drill_totals players number) f (first_places (drill_totals players number)) in
+    let S : ℤ → Type 0 = λ z. IsWhole z (sum_of (drill_totals players number)) in
+    let R : Report → Type 0 = λ r. IsRightDrill players number (report_text r) in
+    let so : report ≡ drill_report_of number names first sum = is ∙ ap (drill_report_of number names first) same in
+    subst R (sym so)
+    (made players number entries names first sum are (first_is ∙ truly.first) (subst F (sym first_is) truly.totals) (subst S (sym sum_is) truly.sum) (subst IsValid so valid) shows)
+right_drill_if players number sheets entries names first sum units (Err error) drawn are first_is told sum_is same is valid shows = tt
+
+-- what is told of the lines of machines, as they are read
+pub told_entries : (players on_the_right : List Lasting) → SidesFit players on_the_right → (sheets : List SheetData) (entries read : List EntryLine) → read ≡ entries → IsTold players sheets entries → IsTold players sheets read
+told_entries players on_the_right fits sheets entries read same told = let P : List EntryLine → Type 0 = λ es. IsTold players sheets es in subst P (sym same) told
 
 pub asked_if : {E : Type 0} (before after : BenchState) (number : ℕ) (sheets : List SheetData) (made_of : Result Report E) → sheets ≡ drill_sheets number
     → AreAsked (machine_strategies (players_of before) sheets) drill_job.turns drill_pairs (bench_turns before) (bench_turns after)
@@ -116,9 +107,6 @@ asked_if before after number sheets (Ok report) drawn asked =
 asked_if before after number sheets (Err error) drawn asked = tt
 
 -- ---- it can be made
-
-pub as_many : (entries : List EntryLine) (lines : List MatchLine) → entries ≡ entries_of 64 lines → length entries ≡ 64
-as_many entries lines are = ap length are ∙ length-map-range_with_len (entry_of 64 lines) 0 64
 
 pub first_few : (entries : List EntryLine) → length (first_of entries) ≤ length entries
 first_few entries =
@@ -155,10 +143,6 @@ sum_is_total entries sum few small is =
     let s = sum_small entries small in
     rw is (record { low = s.low; high = omega (arith, ints, s.high, few) })
 
-pub few_pairs : TournamentsAscend → 2 * length drill_pairs ≤ 64 * 65
-unfolding drill_pairs
-few_pairs law = (law drill_job 64).few
-
 pub machines_named : (entries : List EntryLine) (names : List (List ℕ)) (first : List (ℕ × ℤ)) → length entries ≡ 64 → names ≡ map drill_name (range_with_len 0 64) → first ≡ first_of entries
     → All (λ (entry : EntryLine). IsSmallTotal entry.total) entries → All (IsFirstOf (length names)) first
 machines_named entries names first many are is small =
@@ -166,6 +150,3 @@ machines_named entries names first many are is small =
     let P : ℕ → Type 0 = λ n. All (IsFirstOf n) (first_of entries) in
     let Q : List (ℕ × ℤ) → Type 0 = λ ls. All (IsFirstOf (length names)) ls in
     subst Q (sym is) (subst P as_long (first_machines entries small))
-
-pub whole_sum : (entries : List EntryLine) (sum : ℤ) (total : Fraction) → sum ≡ sum_of_totals entries → IsWhole (sum_of_totals entries) total → IsWhole sum total
-whole_sum entries sum total is whole = let P : ℤ → Type 0 = λ units. IsWhole units total in subst P (sym is) whole

@@ -1,4 +1,3 @@
-pub mod ByRule
 pub mod Contesting
 pub mod DrillLoops
 pub mod DrillReports
@@ -7,8 +6,6 @@ pub mod Drills
 pub mod Entries
 pub mod Points
 pub mod Reports
-pub mod Ruled
-pub mod Showing
 pub mod Sparing
 pub mod TableLines
 pub mod Tables

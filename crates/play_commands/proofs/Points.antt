@@ -6,17 +6,16 @@ use Rattle.std.specs.List.{All, list_any}
 use Rattle.std.proofs.lemmas.Int.{ints}
 use Rattle.std.proofs.lemmas.Bool.Decides.{Decides-int_eq}
 use Rattle.std.proofs.lemmas.List.Elements.{All-head, All-tail, All-append, All-take, All-drop}
-use Rattle.history_model.specs.Automaton.{Automaton}
 use Rattle.history_model.specs.Game.{Payoffs}
-use Rattle.history_model.specs.Noise.{FlipRate}
+use Rattle.player_core.specs.State.{Lasting}
 use Rattle.history_model.specs.declared.tally.Tally.{Tally}
 use Rattle.fixed_span.specs.declared.ordering.Verdict.TheVariants as verdicts
 use Rattle.fixed_span.specs.Span.{Ends, point}
 use Rattle.fixed_span.specs.Verdict.{is_level, verdict}
 use Rattle.result_lines.specs.declared.line.MatchLine.{MatchLine}
-use Rattle.product_chain.specs.Expected.{IsSureMatch}
+use Rattle.sheet_rules.specs.Entrants.{Entrant, IsSurePair}
+use Rattle.sheet_rules.specs.RightLine.{IsRightScore}
 use Rattle.result_lines.specs.declared.ranking.Rank.TheVariants.{At}
-use Rattle.round_robin.specs.Line.{IsScored}
 use Rattle.result_lines.specs.Ranks.{greater_among, is_undecided, others, rank_of, span_at, undecided_among}
 use Rattle.result_lines.specs.Totals.{total_of}
 
@@ -38,10 +37,10 @@ pub record ArePaid (line : MatchLine) : Type 0 where
 point_is : (span : Ends) (v : ℤ) → span ≡ point v → IsPoint span
 point_is span v is = rw is refl
 
-pub played_points : (a : Automaton) (na : FlipRate) (b : Automaton) (nb : FlipRate) (game : Payoffs) (n : ℕ) (line : MatchLine) (tally : Option Tally)
-    → IsSureMatch a na b nb → IsScored a na b nb game n line tally → IsPoint line.left_score × IsPoint line.right_score
-played_points a na b nb game n line (Some tally) sure played = (point_is line.left_score _ played.left, point_is line.right_score _ played.right)
-played_points a na b nb game n line None sure mixed = absurd (mixed.unsure sure)
+pub played_points : (players : List Lasting) (game : Payoffs) (offset : ℕ) (left right : Entrant) (line : MatchLine) (tally : Option Tally)
+    → IsSurePair players left right → IsRightScore players game offset left right line tally → IsPoint line.left_score × IsPoint line.right_score
+played_points players game offset left right line (Some tally) sure played = (point_is line.left_score _ played.left_score, point_is line.right_score _ played.right_score)
+played_points players game offset left right line None sure mixed = absurd (mixed.unsure sure)
 
 -- ---- totals
 

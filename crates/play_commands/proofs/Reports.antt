@@ -1,8 +1,9 @@
 -- The report that is made of a right line is right.
-use Rattle.std.proofs.Common.{◌≡◌, ℕ, List, bytes_eq, Option, Some, None, Result, Ok, Err, IfOk, if◌then◌else◌, refl, inl, inr}
+use Rattle.std.proofs.Common.{◌≡◌, ℕ, List, bytes_eq, Option, Some, None, Result, Ok, Err, IfOk, if◌then◌else◌, refl, inl, inr, subst}
 use Rattle.std.proofs.lemmas.Bool.{cases_Bool}
 use Rattle.std.proofs.lemmas.Slice.Eq.{bytes_eq-Decides}
 use Rattle.history_model.specs.declared.tally.Tally.{Tally}
+use Rattle.history_model.specs.Game.{Payoffs}
 use Rattle.player_core.specs.State.{Lasting}
 use Rattle.player_core.specs.Fits.{SidesFit}
 use Rattle.result_lines.specs.declared.line.MatchLine.{MatchLine}
@@ -13,9 +14,11 @@ use Rattle.lab_report.specs.Valid.{IsValid}
 use Rattle.report_making.specs.Made.{names_of_pair, match_report_of}
 use Rattle.lab_file.specs.declared.jobs.MatchJob.{MatchJob}
 use Rattle.lab_file.specs.Lab.{LabData, entry_at}
-use Rattle.play_commands.specs.Entrants.{Entrant}
+use Rattle.sheet_rules.specs.Entrants.{Entrant}
+use Rattle.sheet_rules.specs.RightLine.{IsRightLine, IsRightScore}
+use Rattle.play_commands.specs.Entrants.{IsEntrant}
 use Rattle.play_commands.specs.RightMatch.{IsRightMatch}
-use Rattle.play_commands.specs.RightLine.{IsRightScore, IsRightBetween}
+use Rattle.play_commands.specs.RightLine.{IsRightBetween}
 
 -- the places of two names in their report
 left_shown : (left right : List ℕ) → name_at (names_of_pair left right) 0 ≡ left
@@ -28,9 +31,9 @@ right_shown left right = elim (cases_Bool (bytes_eq left right)) [
 ]
 
 -- where its names stand changes nothing of what a line says
-pub placed : (players : List Lasting) (lab : LabData) (left right : Entrant) (line : MatchLine) (i j : ℕ) (tally : Option Tally)
-    → IsRightScore players lab left right line tally → IsRightScore players lab left right (record line { left = i; right = j }) tally
-placed players lab left right line i j (Some tally) played = record {
+pub placed : (players : List Lasting) (game : Payoffs) (offset : ℕ) (left right : Entrant) (line : MatchLine) (i j : ℕ) (tally : Option Tally)
+    → IsRightScore players game offset left right line tally → IsRightScore players game offset left right (record line { left = i; right = j }) tally
+placed players game offset left right line i j (Some tally) played = record {
   sure = played.sure;
   history = played.history;
   by_rules = played.by_rules;
@@ -38,7 +41,7 @@ placed players lab left right line i j (Some tally) played = record {
   left_score = played.left_score;
   right_score = played.right_score;
 }
-placed players lab left right line i j None mixed = record {
+placed players game offset left right line i j None mixed = record {
   unsure = mixed.unsure;
   left_holds = mixed.left_holds;
   right_holds = mixed.right_holds;
@@ -47,6 +50,15 @@ placed players lab left right line i j None mixed = record {
   left_tight = mixed.left_tight;
   right_tight = mixed.right_tight;
 }
+
+-- a line that is right between two entrants is right between the entries that they are
+pub right_between : {E : Type 0} (players on_the_right : List Lasting) → SidesFit players on_the_right → (lab : LabData) (i j turns : ℕ) (left right : Entrant) (read : Payoffs) (made : Result MatchLine E)
+    → read ≡ lab.game → IsEntrant lab i left → IsEntrant lab j right → IfOk made (λ line. line.turns ≡ turns) → IfOk made (IsRightLine players read 0 left right)
+    → IfOk made (IsRightBetween players lab i j turns)
+right_between players on_the_right fits lab i j turns left right read (Ok line) of_lab left_is right_is turns_are right_is_line =
+    let P : Payoffs → Type 0 = λ g. IsRightLine players g 0 left right line in
+    record { left = left; right = right; left_is = left_is; right_is = right_is; turns_are = turns_are; score = subst P of_lab right_is_line }
+right_between players on_the_right fits lab i j turns left right read (Err error) of_lab left_is right_is turns_are right_is_line = tt
 
 pub right_report : {E : Type 0} (players on_the_right : List Lasting) → SidesFit players on_the_right → (lab : LabData) (job : MatchJob) (line : MatchLine) (made : Result Report E)
     → lab.jobs.match_job ≡ Some job → IsRightBetween players lab job.left job.right job.turns line
@@ -75,7 +87,7 @@ right_report players on_the_right fits lab job line (Ok report) is right made_is
         left_is = right.left_is;
         right_is = right.right_is;
         turns_are = right.turns_are;
-        score = placed players lab right.left right.right line 0 j line.tally right.score;
+        score = placed players lab.game 0 right.left right.right line 0 j line.tally right.score;
       };
     } in rw made_is here
 right_report players on_the_right fits lab job line (Err error) is right made_is valid = tt

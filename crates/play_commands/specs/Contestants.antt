@@ -1,16 +1,11 @@
 -- The entries of a lab as contestants of a tournament.
 use Rattle.std.specs.Prelude.{ℕ, ◌≡◌, ◌<◌, List, length, map, slice_index_or}
 use Rattle.player_core.specs.Sheet.{IsSheet}
-use Rattle.round_robin.specs.declared.contestant.Contestant.{Contestant}
+use Rattle.sheet_rules.specs.declared.contestant.Contestant.{Contestant}
+use Rattle.sheet_rules.specs.Entrants.{entrant_of}
 use Rattle.lab_file.specs.declared.lab.Entry.{Entry}
 use Rattle.lab_file.specs.Lab.{LabData}
-use Rattle.play_commands.specs.Entrants.{Entrant, IsEntrant}
-
-abbrev pub entrant_of : Contestant → Entrant
-entrant_of contestant = record { sheet = contestant.sheet.now; noise = contestant.noise.now }
-
-abbrev pub entrants_of : List Contestant → List Entrant
-entrants_of contestants = map entrant_of contestants
+use Rattle.play_commands.specs.Entrants.{IsEntrant}
 
 -- the contestant is the entry at a place
 pub record IsContestantOf (lab : LabData) (place : ℕ) (contestant : Contestant) : Type 0 where

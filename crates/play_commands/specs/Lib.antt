@@ -1,4 +1,3 @@
-pub mod ByRule
 pub mod Contestants
 pub mod Entrants
 pub mod Machines

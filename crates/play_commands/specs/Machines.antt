@@ -1,23 +1,21 @@
 -- Machines that meet each other in a drill, and what is told of their results.
-use Rattle.std.specs.Prelude.{ℕ, ◌≡◌, ◌==◌, Bool, true, false, All, List, [], ◌∷◌, length, map, filter, slice_index_or, ℤ, pos, ◌+ℤ◌, ◌≤ℤ◌, ◌^◌, None}
-use Rattle.std.specs.List.{range_with_len}
+use Rattle.std.specs.Prelude.{ℕ, ◌≡◌, ◌==◌, Bool, false, All, List, [], ◌∷◌, length, map, filter, slice_index_or, ℤ, pos, ◌+ℤ◌, ◌≤ℤ◌, ◌^◌, None}
+use Rattle.std.specs.List.{AllZip, range_with_len}
 use Rattle.history_model.specs.Noise.{no_noise}
 use Rattle.player_core.specs.declared.kind.Kind.TheVariants.{Machine}
 use Rattle.player_core.specs.State.{Lasting}
 use Rattle.player_core.specs.Sheet.{SheetData, IsSheet}
 use Rattle.fixed_span.specs.Span.{Ends, Fraction, Holds, point, score_units}
-use Rattle.round_robin.specs.declared.contestant.Contestant.{Contestant}
+use Rattle.sheet_rules.specs.declared.contestant.Contestant.{Contestant}
+use Rattle.sheet_rules.specs.Entrants.{Entrant, entrants_of, expects_at}
 use Rattle.result_lines.specs.declared.ranking.Rank.{Rank}
 use Rattle.result_lines.specs.declared.ranking.Rank.TheVariants.{At, Undecided}
 use Rattle.result_lines.specs.declared.tables.EntryLine.{EntryLine}
-use Rattle.round_robin.specs.Contest.{Strategy}
+use Rattle.round_robin.specs.Contest.{Strategy, entrant_strategies}
 use Rattle.round_robin.specs.Truth.{nothing, plus, true_totals, true_rank}
 use Rattle.lab_report.specs.Valid.{drill_game}
 use Rattle.lab_file.specs.declared.tournament.TournamentJob.{TournamentJob}
 use Rattle.lab_file.specs.Tournament.{tournament_pairs}
-use Rattle.play_commands.specs.Contestants.{entrants_of}
-use Rattle.play_commands.specs.Entrants.{Entrant, expects_in}
-use Rattle.play_commands.specs.RightTournament.{entrant_at, strategy_of_entrant}
 
 -- ---- what is played
 
@@ -45,14 +43,13 @@ AreStill sheets contestants = entrants_of contestants ≡ map still sheets
 
 -- what they play on the bench
 abbrev pub machine_strategies : List Lasting → List SheetData → List Strategy
-machine_strategies players sheets = map (strategy_of_entrant players) (map still sheets)
+machine_strategies players sheets = entrant_strategies players (map still sheets)
 
 -- ---- what is true of it
 
 -- what the machine at one place expects against the one at another
 abbrev pub machine_expects : List Lasting → List SheetData → ℕ → ℕ → Fraction
-machine_expects players sheets i j =
-    expects_in players drill_game 0 drill_job.turns (entrant_at (map still sheets) i) (entrant_at (map still sheets) j)
+machine_expects players sheets i j = expects_at players drill_game 0 drill_job.turns (map still sheets) i j
 
 -- the true totals of all machines
 unfoldable pub machine_totals : List Lasting → List SheetData → List Fraction
@@ -101,3 +98,11 @@ pub record IsSmallTotal (total : Ends) : Type 0 where
 abbrev pub sum_of_totals : List EntryLine → ℤ
 sum_of_totals [] = pos 0
 sum_of_totals (entry ∷ entries) = entry.total.lo +ℤ sum_of_totals entries
+
+-- what is told of machines is true: the first, their totals, and the sum of all totals
+pub record IsTold (players : List Lasting) (sheets : List SheetData) (entries : List EntryLine) : Type 0 where
+  pub many : length entries ≡ 64
+  pub small : All (λ (entry : EntryLine). IsSmallTotal entry.total) entries
+  pub first : first_of entries ≡ map (total_at entries) (first_places (machine_totals players sheets))
+  pub totals : AllZip (λ line place. IsWhole line.1 (slice_index_or (machine_totals players sheets) place nothing)) (first_of entries) (first_places (machine_totals players sheets))
+  pub sum : IsWhole (sum_of_totals entries) (sum_of (machine_totals players sheets))

@@ -1,5 +1,5 @@
 -- How often the work of a command may advance the players of each side.
-use Rattle.std.specs.Prelude.{◌≡◌, ◌⊎◌, ℕ, List, length, map, Some}
+use Rattle.std.specs.Prelude.{◌≡◌, ◌⊎◌, ℕ, List, length, Some}
 use Rattle.player_core.specs.Bench.{SameTurns}
 use Rattle.player_core.specs.Sheet.{SheetData}
 use Rattle.player_core.specs.State.{BenchState, players_of}
@@ -9,9 +9,11 @@ use Rattle.lab_file.specs.declared.jobs.MatchJob.{MatchJob}
 use Rattle.lab_file.specs.declared.tournament.TournamentJob.{TournamentJob}
 use Rattle.lab_file.specs.Lab.{LabData}
 use Rattle.lab_file.specs.Tournament.{tournament_pairs}
-use Rattle.play_commands.specs.Entrants.{Entrant, IsEntrant, automaton_of_entrant}
+use Rattle.sheet_rules.specs.Entrants.{Entrant, automaton_of_entrant}
+use Rattle.round_robin.specs.Contest.{entrant_strategies}
+use Rattle.play_commands.specs.Entrants.{IsEntrant}
 use Rattle.play_commands.specs.Machines.{drill_pairs, machine_strategies}
-use Rattle.play_commands.specs.RightTournament.{AreEntrants, strategy_of_entrant}
+use Rattle.play_commands.specs.RightTournament.{AreEntrants}
 
 -- for the match of two entries of a lab: two advances for each pair of rows, and four for each row of both
 pub record MayAskBetween (before after : BenchState) (lab : LabData) (left_place right_place : ℕ) : Type 0 where
@@ -34,7 +36,7 @@ pub record MayAskTournament (before after : BenchState) (lab : LabData) : Type 0
   pub job_is : lab.jobs.tournament_job ≡ Some job
   pub entrants : List Entrant
   pub entrants_are : AreEntrants lab entrants
-  pub most : AtMostTurns (most_for (map (strategy_of_entrant (players_of before)) entrants) (tournament_pairs job (length lab.entries)))
+  pub most : AtMostTurns (most_for (entrant_strategies (players_of before) entrants) (tournament_pairs job (length lab.entries)))
       (bench_turns before) (bench_turns after)
 
 -- nobody was advanced, or each side at most as often as this allows

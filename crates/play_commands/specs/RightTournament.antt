@@ -1,16 +1,15 @@
 -- What the report of a tournament must say.
-use Rattle.std.specs.Prelude.{ℕ, ◌≡◌, ◌<◌, List, [], length, map, slice_index_or, Some}
+use Rattle.std.specs.Prelude.{ℕ, ◌≡◌, ◌<◌, List, length, map, slice_index_or, Some}
 use Rattle.std.specs.List.{AllZip}
-use Rattle.player_core.specs.State.{BenchState, Lasting, no_name, players_of}
-use Rattle.player_core.specs.declared.kind.Kind.TheVariants.{Plug}
-use Rattle.history_model.specs.Noise.{no_noise}
-use Rattle.fixed_span.specs.Span.{Fraction, Holds, score_units}
+use Rattle.player_core.specs.State.{BenchState, Lasting, players_of}
 use Rattle.result_lines.specs.declared.line.MatchLine.{MatchLine}
 use Rattle.round_robin.specs.Asked.{AreAsked, bench_turns}
-use Rattle.round_robin.specs.Contest.{Strategy}
+use Rattle.sheet_rules.specs.Entrants.{Entrant, entrant_at, expects_at}
+use Rattle.sheet_rules.specs.RightLine.{IsRightLine}
+use Rattle.round_robin.specs.Contest.{entrant_strategies}
+use Rattle.round_robin.specs.Entries.{IsRightEntry}
 use Rattle.result_lines.specs.declared.tables.EntryLine.{EntryLine}
-use Rattle.result_lines.specs.declared.ranking.Rank.TheVariants.{At}
-use Rattle.round_robin.specs.Truth.{nothing, true_totals, true_rank}
+use Rattle.round_robin.specs.Truth.{true_totals}
 use Rattle.lab_report.specs.declared.report.Body.TheVariants as bodies
 use Rattle.lab_report.specs.declared.report.Report.{Report}
 use Rattle.lab_report.specs.Names.{name_at}
@@ -20,39 +19,20 @@ use Rattle.lab_file.specs.declared.tournament.TournamentJob.{TournamentJob}
 use Rattle.lab_file.specs.Lab.{LabData, entry_at}
 use Rattle.lab_file.specs.Tournament.{tournament_pairs}
 use Rattle.play_commands.specs.Contestants.{names_of}
-use Rattle.play_commands.specs.Entrants.{Entrant, IsEntrant, automaton_of_entrant, expects}
-use Rattle.play_commands.specs.RightLine.{IsRightLine, IsOfLab}
-
--- what stands where there is no entry
-abbrev pub no_entrant : Entrant
-no_entrant = record {
-  sheet = record { kind = Plug; den = 1; own = 0; other = 0; first = 0; opening = []; table = []; next = []; plug = no_name };
-  noise = no_noise;
-}
-
-abbrev pub entrant_at : List Entrant → ℕ → Entrant
-entrant_at entrants place = slice_index_or entrants place no_entrant
+use Rattle.play_commands.specs.Entrants.{IsEntrant, offset_of}
+use Rattle.play_commands.specs.RightLine.{IsOfLab}
 
 -- the entries of the lab, in file order
 pub record AreEntrants (lab : LabData) (entrants : List Entrant) : Type 0 where
   pub count : length entrants ≡ length lab.entries
   pub each : (place : ℕ) → place < length lab.entries → IsEntrant lab place (entrant_at entrants place)
 
--- what the entry at one place expects against the one at another
-abbrev pub expects_at : List Lasting → LabData → ℕ → List Entrant → ℕ → ℕ → Fraction
-expects_at players lab turns entrants i j = expects players lab turns (entrant_at entrants i) (entrant_at entrants j)
-
 -- the line of the match of a pair of places: it names the two entries, and is right
 pub record IsRightPair (players : List Lasting) (lab : LabData) (entrants : List Entrant) (turns : ℕ) (names : List (List ℕ)) (line : MatchLine) (pair : ℕ × ℕ) : Type 0 where
   pub left_name : name_at names line.left ≡ (entry_at lab.entries pair.0).name
   pub right_name : name_at names line.right ≡ (entry_at lab.entries pair.1).name
   pub turns_are : line.turns ≡ turns
-  pub score : IsRightLine players lab (entrant_at entrants pair.0) (entrant_at entrants pair.1) line
-
--- the line of an entry: its total holds the true total, and a rank that is told is the true rank
-pub record IsRightEntry (totals : List Fraction) (place : ℕ) (entry : EntryLine) : Type 0 where
-  pub total : Holds score_units entry.total (slice_index_or totals place nothing)
-  pub rank : (k : ℕ) → entry.rank ≡ At k → true_rank totals place ≡ k
+  pub score : IsRightLine players lab.game (offset_of lab) (entrant_at entrants pair.0) (entrant_at entrants pair.1) line
 
 -- the bytes are the text of a valid report of the lab's tournament: a right line for each pair that is played, in ascending order, and
 -- a right line for each entry, in file order. That totals are sums of the spans above them, that ranks, wins and undecided matches are
@@ -73,12 +53,8 @@ pub record IsRightTournament (players : List Lasting) (lab : LabData) (bytes : L
   pub match_lines : AllZip (IsRightPair players lab entrants job.turns report.names) matches (tournament_pairs job (length lab.entries))
   pub entry_names : map (name_at report.names) who ≡ names_of lab.entries
   pub entry_lines : (place : ℕ) (none : EntryLine) → place < length lab.entries →
-      IsRightEntry (true_totals (expects_at players lab job.turns entrants) (tournament_pairs job (length lab.entries)) (length lab.entries))
+      IsRightEntry (true_totals (expects_at players lab.game (offset_of lab) job.turns entrants) (tournament_pairs job (length lab.entries)) (length lab.entries))
       place (slice_index_or entries place none)
-
--- what an entry plays on the bench, and the noise of its moves
-abbrev pub strategy_of_entrant : List Lasting → Entrant → Strategy
-strategy_of_entrant players entrant = record { automaton = automaton_of_entrant players entrant; noise = entrant.noise }
 
 -- the players of the lab's tournament were asked, for each of its matches
 pub record IsAskedTournament (before after : BenchState) (lab : LabData) : Type 0 where
@@ -86,5 +62,5 @@ pub record IsAskedTournament (before after : BenchState) (lab : LabData) : Type 
   pub job_is : lab.jobs.tournament_job ≡ Some job
   pub entrants : List Entrant
   pub entrants_are : AreEntrants lab entrants
-  pub asked : AreAsked (map (strategy_of_entrant (players_of before)) entrants) job.turns (tournament_pairs job (length lab.entries))
+  pub asked : AreAsked (entrant_strategies (players_of before) entrants) job.turns (tournament_pairs job (length lab.entries))
       (bench_turns before) (bench_turns after)

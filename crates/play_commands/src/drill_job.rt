@@ -6,27 +6,22 @@ ghost use Rattle.player_core.specs.State.{players_of};
 ghost use Rattle.player_core.specs.Bench.{KeepsBench};
 ghost use Rattle.player_core.specs.Fits.{Fits};
 ghost use Rattle.round_robin.specs.Asked.{bench_turns, AreAsked};
-ghost use Rattle.result_lines.specs.Totals.{entries_of};
-ghost use Rattle.round_robin.specs.Totals.{AreLines};
 ghost use Rattle.lab_report.specs.Text.{report_text};
-ghost use Rattle.lab_report.specs.Valid.{IsValid, drill_game};
+ghost use Rattle.lab_report.specs.Valid.{IsValid};
 ghost use Rattle.drill.specs.Drill.{drill_name};
-ghost use Rattle.play_commands.specs.Machines.{AreMachines, AreStill, IsSmallTotal, drill_job, drill_pairs, first_of, is_first, line_at, machine_strategies, sum_of_totals, total_at};
+ghost use Rattle.play_commands.specs.Machines.{AreMachines, AreStill, IsSmallTotal, IsTold, drill_job, drill_pairs, first_of, is_first, line_at, machine_strategies, sum_of_totals, total_at};
 ghost use Rattle.play_commands.specs.MayAsk.{MayAskDrill, MayAskMachines, UpTo};
 ghost use Rattle.play_commands.specs.RightDrill.{IsAskedDrill, IsRightDrill};
 
 use drill::{drill_name, drill_sheets};
-use history_model::{Game, Name, NoMemory, Noise, weights_decide};
+use history_model::{Game, Name, NoMemory, Noise};
 use lab_file::TournamentJob;
 use lab_file::laws::tournaments_ascend;
 use lab_report::Report;
-use lookup_player::tables_follow_their_rule;
-use machine_player::machines_follow_their_rule;
-use memory_player::vectors_follow_their_rule;
 use player_core::{Bench, Player, Seen, Sheet};
 use report_making::drill_report;
-use round_robin::laws::{lines_hold, sums_are_held, tournaments_are_true};
-use round_robin::{Contestant, EntryLine, Rank, Totals, totals};
+use round_robin::laws::sums_are_held;
+use round_robin::{Contestant, EntryLine, Rank, Totals, entry_totals};
 use std::alloc::Global;
 
 // How many machines there are, and how many turns each two of them play.
@@ -54,13 +49,13 @@ fn contestants<'a>(
 fn results(alloc: Global, sheets: &[Sheet], bench: &mut Bench) -> Result<Totals, NoMemory>
     requires fits { Fits (⟦<Bench as Seen>⟧.view bench.old) }
     requires machines { AreMachines sheets.now }
-    ensures lines { IfOk result (λ totals. AreLines (machine_strategies (players_of (⟦<Bench as Seen>⟧.view bench.old)) sheets.now) drill_game drill_job.turns drill_pairs totals.matches) }
-    ensures entries { IfOk result (λ totals. totals.entries ≡ entries_of (length sheets.now) totals.matches) }
+    ensures told { IfOk result (λ totals. IsTold (players_of (⟦<Bench as Seen>⟧.view bench.old)) sheets.now totals.entries) }
     ensures most { MayAskMachines (⟦<Bench as Seen>⟧.view bench.old) (⟦<Bench as Seen>⟧.view bench.new) sheets.now }
     ensures asked { IfOk result (λ _. AreAsked (machine_strategies (players_of (⟦<Bench as Seen>⟧.view bench.old)) sheets.now) drill_job.turns drill_pairs (bench_turns (⟦<Bench as Seen>⟧.view bench.old)) (bench_turns (⟦<Bench as Seen>⟧.view bench.new))) }
     ensures kept { KeepsBench (⟦<Bench as Seen>⟧.view bench.old) (⟦<Bench as Seen>⟧.view bench.new) }
 {
     tournaments_ascend();
+    sums_are_held();
     let noise = Noise { n: 0, e: 1 };
     let game = Game {
         r: 3,
@@ -75,7 +70,7 @@ fn results(alloc: Global, sheets: &[Sheet], bench: &mut Bench) -> Result<Totals,
     };
     let contestants = contestants(alloc, sheets, &noise)?;
     let pairs = job.pairs(alloc, sheets.len() as u32)?;
-    let results = totals(alloc, bench, &contestants, &pairs, &game, job.turns)?;
+    let results = entry_totals(alloc, bench, &contestants, &pairs, &game, job.turns)?;
     Ok(results)
 }
 
@@ -149,14 +144,6 @@ pub fn drill(alloc: Global, number: u64, bench: &mut Bench) -> Result<Report, No
     ensures asked { IfOk result (λ _. IsAskedDrill (⟦<Bench as Seen>⟧.view bench.old) (⟦<Bench as Seen>⟧.view bench.new) number) }
     ensures kept { KeepsBench (⟦<Bench as Seen>⟧.view bench.old) (⟦<Bench as Seen>⟧.view bench.new) }
 {
-    vectors_follow_their_rule();
-    machines_follow_their_rule();
-    tables_follow_their_rule();
-    weights_decide();
-    lines_hold();
-    tournaments_ascend();
-    tournaments_are_true();
-    sums_are_held();
     let sheets = drill_sheets(alloc, number)?;
     let results = results(alloc, sheets.as_slice(), bench)?;
     let entries = results.entries.as_slice();

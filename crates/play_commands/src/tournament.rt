@@ -1,10 +1,10 @@
 //! The tournament of a lab.
-ghost use Rattle.std.specs.Prelude.{◌≡◌, ◌<◌, All, length, Some, Ok, IfOk};
+ghost use Rattle.std.specs.Prelude.{◌≡◌, All, length, Some, Ok, IfOk};
 ghost use Rattle.player_core.specs.State.{players_of};
 ghost use Rattle.player_core.specs.Fits.{Fits};
 ghost use Rattle.player_core.specs.Bench.{KeepsBench, notes_of};
-ghost use Rattle.result_lines.specs.Totals.{entries_of};
-ghost use Rattle.round_robin.specs.Totals.{AreLines};
+ghost use Rattle.sheet_rules.specs.Entrants.{entrants_of};
+ghost use Rattle.round_robin.specs.Entries.{AreRightEntries, AreRightLines, EntriesAskedOn, EntriesAtMostOn, totals_by_rule};
 ghost use Rattle.lab_report.specs.Text.{report_text};
 ghost use Rattle.lab_report.specs.Valid.{IsValid};
 ghost use Rattle.report_making.specs.Made.{AreResults, ShowsNames, tournament_report_of};
@@ -13,51 +13,20 @@ ghost use Rattle.lab_file.specs.Lab.{IsTournamentJob};
 ghost use Rattle.lab_file.specs.Notes.{AreNoted};
 ghost use Rattle.lab_file.specs.Limits.{tournament_limits, limits_of};
 ghost use Rattle.lab_file.specs.Tournament.{tournament_pairs};
-ghost use Rattle.play_commands.specs.Contestants.{AreFirst, IsContestantOf, names_of};
+ghost use Rattle.play_commands.specs.Contestants.{AreFirst, names_of};
 ghost use Rattle.play_commands.specs.MayAsk.{MayAskTournament, UpTo};
 ghost use Rattle.play_commands.specs.RightTournament.{IsAskedTournament, IsRightTournament};
-ghost use Rattle.round_robin.specs.OnBench.{AreAskedOn, AtMostForOn, strategies_on};
 ghost use Rattle.play_commands.specs.Ready.{IsReadyEntry};
 
-use crate::matches::entrant;
-use history_model::{Name, NoMemory, path_is_one, weights_decide};
+use crate::matches::contestant;
+use history_model::{Name, NoMemory};
 use lab_file::laws::{matches_are_kept, notes_tell, tournaments_ascend};
 use lab_file::{Lab, TournamentJob};
 use lab_report::Report;
-use lookup_player::tables_follow_their_rule;
-use machine_player::machines_follow_their_rule;
-use memory_player::vectors_follow_their_rule;
-use player_core::{Bench, Player, PlugNote, Seen};
+use player_core::{Bench, Player, Seen};
 use report_making::tournament_report;
-use round_robin::laws::{lines_hold, tournaments_are_true};
-use round_robin::{Contestant, Totals, totals};
+use round_robin::{Contestant, Totals, entry_totals};
 use std::alloc::Global;
-
-// The job of a lab that keeps the limits of `tournament`.
-fn tournament_job<'a>(lab: &'a Lab, notes: &Vec<PlugNote>) -> &'a TournamentJob
-    requires kept { limits_of notes.now.items commands.Tournament lab.now ≡ Ok tt }
-    ensures job { lab.now.jobs.tournament_job ≡ Some result.now }
-    ensures sound { IsTournamentJob (length lab.now.entries) result.now }
-    ensures limits { tournament_limits notes.now.items lab.now.entries result.now ≡ Ok tt }
-{
-    lab.shape();
-    match &lab.jobs.tournament_job {
-        Some(job) => job,
-        None => unreachable!(),
-    }
-}
-
-// The entry at a place, as a contestant.
-fn contestant(lab: &Lab, place: u32) -> Contestant<'_>
-    requires inside { place < length lab.now.entries }
-    requires ready { All IsReadyEntry lab.now.entries }
-    ensures { IsContestantOf lab.now place result }
-{
-    Contestant {
-        sheet: entrant(lab, place).sheet,
-        noise: &lab.entries.at(place as usize).noise,
-    }
-}
 
 // All entries, in file order.
 fn contestants(alloc: Global, lab: &Lab) -> Result<Vec<Contestant<'_>>, NoMemory>
@@ -86,33 +55,28 @@ fn names(alloc: Global, lab: &Lab) -> Result<Vec<Name>, NoMemory>
 fn results(
     alloc: Global,
     lab: &Lab,
-    notes: &Vec<PlugNote>,
     job: &TournamentJob,
     contestants: &[Contestant<'_>],
     bench: &mut Bench,
 ) -> Result<Totals, NoMemory>
     requires fits { Fits (⟦<Bench as Seen>⟧.view bench.old) }
-    requires notes { notes.now.items ≡ notes_of (players_of (⟦<Bench as Seen>⟧.view bench.old)) }
     requires sound { IsTournamentJob (length lab.now.entries) job.now }
-    requires limits { tournament_limits notes.now.items lab.now.entries job.now ≡ Ok tt }
-    requires noted { AreNoted notes.now.items lab.now.entries }
+    requires limits { tournament_limits (notes_of (players_of (⟦<Bench as Seen>⟧.view bench.old))) lab.now.entries job.now ≡ Ok tt }
+    requires noted { AreNoted (notes_of (players_of (⟦<Bench as Seen>⟧.view bench.old))) lab.now.entries }
     requires contestants { AreFirst lab.now (length lab.now.entries) contestants.now }
-    ensures lines { IfOk result (λ totals. AreLines (strategies_on (⟦<Bench as Seen>⟧.view bench.old) contestants.now) lab.now.game job.now.turns (tournament_pairs job.now (length lab.now.entries)) totals.matches) }
-    ensures entries { IfOk result (λ totals. totals.entries ≡ entries_of (length lab.now.entries) totals.matches) }
+    ensures lines { IfOk result (λ totals. AreRightLines (players_of (⟦<Bench as Seen>⟧.view bench.old)) lab.now.game 0 job.now.turns (entrants_of contestants.now) (tournament_pairs job.now (length lab.now.entries)) totals.matches) }
+    ensures entries { IfOk result (λ totals. AreRightEntries (totals_by_rule (players_of (⟦<Bench as Seen>⟧.view bench.old)) lab.now.game 0 job.now.turns (entrants_of contestants.now) (tournament_pairs job.now (length lab.now.entries))) (length lab.now.entries) totals.entries) }
     ensures showable { IfOk result (AreResults (length lab.now.entries) lab.now.game) }
-    ensures most { UpTo (⟦<Bench as Seen>⟧.view bench.old) (⟦<Bench as Seen>⟧.view bench.new) (AtMostForOn (⟦<Bench as Seen>⟧.view bench.old) (⟦<Bench as Seen>⟧.view bench.new) contestants.now (tournament_pairs job.now (length lab.now.entries))) }
-    ensures asked { IfOk result (λ _. AreAskedOn (⟦<Bench as Seen>⟧.view bench.old) (⟦<Bench as Seen>⟧.view bench.new) contestants.now job.now.turns (tournament_pairs job.now (length lab.now.entries))) }
+    ensures most { UpTo (⟦<Bench as Seen>⟧.view bench.old) (⟦<Bench as Seen>⟧.view bench.new) (EntriesAtMostOn (⟦<Bench as Seen>⟧.view bench.old) (⟦<Bench as Seen>⟧.view bench.new) (entrants_of contestants.now) (tournament_pairs job.now (length lab.now.entries))) }
+    ensures asked { IfOk result (λ _. EntriesAskedOn (⟦<Bench as Seen>⟧.view bench.old) (⟦<Bench as Seen>⟧.view bench.new) (entrants_of contestants.now) job.now.turns (tournament_pairs job.now (length lab.now.entries))) }
     ensures kept { KeepsBench (⟦<Bench as Seen>⟧.view bench.old) (⟦<Bench as Seen>⟧.view bench.new) }
 {
     notes_tell();
     tournaments_ascend();
     matches_are_kept();
-    lines_hold();
     lab.shape();
-    // The payoffs are in range by their type.
-    let _payoffs = lab.game.unsigned();
     let pairs = job.pairs(alloc, lab.entries.len() as u32)?;
-    let results = totals(alloc, bench, contestants, &pairs, &lab.game, job.turns)?;
+    let results = entry_totals(alloc, bench, contestants, &pairs, &lab.game, job.turns)?;
     Ok(results)
 }
 
@@ -133,29 +97,22 @@ fn table_report(alloc: Global, lab: &Lab, results: &Totals) -> Result<Report, No
 pub fn lab_tournament(
     alloc: Global,
     lab: &Lab,
-    notes: &Vec<PlugNote>,
+    job: &TournamentJob,
     bench: &mut Bench,
 ) -> Result<Report, NoMemory>
     requires fits { Fits (⟦<Bench as Seen>⟧.view bench.old) }
-    requires notes { notes.now.items ≡ notes_of (players_of (⟦<Bench as Seen>⟧.view bench.old)) }
-    requires kept { limits_of notes.now.items commands.Tournament lab.now ≡ Ok tt }
+    requires job { lab.now.jobs.tournament_job ≡ Some job.now }
+    requires limits { limits_of (notes_of (players_of (⟦<Bench as Seen>⟧.view bench.old))) commands.Tournament lab.now ≡ Ok tt }
     requires ready { All IsReadyEntry lab.now.entries }
-    requires noted { AreNoted notes.now.items lab.now.entries }
+    requires noted { AreNoted (notes_of (players_of (⟦<Bench as Seen>⟧.view bench.old))) lab.now.entries }
     ensures right { IfOk result (λ report. IsRightTournament (players_of (⟦<Bench as Seen>⟧.view bench.old)) lab.now (report_text report)) }
     ensures valid { IfOk result IsValid }
     ensures most { UpTo (⟦<Bench as Seen>⟧.view bench.old) (⟦<Bench as Seen>⟧.view bench.new) (MayAskTournament (⟦<Bench as Seen>⟧.view bench.old) (⟦<Bench as Seen>⟧.view bench.new) lab.now) }
     ensures asked { IfOk result (λ _. IsAskedTournament (⟦<Bench as Seen>⟧.view bench.old) (⟦<Bench as Seen>⟧.view bench.new) lab.now) }
     ensures kept { KeepsBench (⟦<Bench as Seen>⟧.view bench.old) (⟦<Bench as Seen>⟧.view bench.new) }
 {
-    vectors_follow_their_rule();
-    machines_follow_their_rule();
-    tables_follow_their_rule();
-    weights_decide();
-    path_is_one();
-    tournaments_ascend();
-    tournaments_are_true();
-    let job = tournament_job(lab, notes);
+    lab.shape();
     let contestants = contestants(alloc, lab)?;
-    let results = results(alloc, lab, notes, job, &contestants, bench)?;
+    let results = results(alloc, lab, job, &contestants, bench)?;
     table_report(alloc, lab, &results)
 }

@@ -1,6 +1,5 @@
 -- The players of all matches were asked.
 use Rattle.std.proofs.Common.{◌≡◌, ◌⊎◌, ◌↔◌, inl, inr, ℕ, zero, suc, ◌+◌, ◌<◌, ◌≤◌, Bool, true, false, IsTrue, List, [], ◌∷◌, ◌++◌, length, take, refl, sym, ◌∙◌, ap, subst, arith}
-use Rattle.std.specs.List.{sum}
 use Rattle.std.proofs.lemmas.List.{take_more}
 use Rattle.player_core.specs.Counts.{IsFull, NoneFell}
 use Rattle.product_chain.specs.Expected.{IsSureMatch}

@@ -13,7 +13,7 @@ use Rattle.player_core.specs.Counts.{turns_of}
 use Rattle.player_core.specs.Laws.{EntriesPlay, KeepingLasts}
 use Rattle.match_play.specs.Known.{IsKnown}
 use Rattle.result_lines.specs.declared.line.MatchLine.{MatchLine}
-use Rattle.round_robin.specs.declared.contestant.Contestant.{Contestant}
+use Rattle.sheet_rules.specs.declared.contestant.Contestant.{Contestant}
 use Rattle.history_model.specs.Noise.{FlipRate}
 use Rattle.player_core.specs.Entry.{entry_automaton}
 use Rattle.round_robin.specs.Asked.{Turns, AreAsked, AtMostTurns, IsAsked, PairAsked, most_advances, most_for, most_of}
@@ -24,7 +24,7 @@ use Rattle.round_robin.proofs.AskingAll.{asked_more, most_stopped, none_asked, p
 
 -- ---- a bench that keeps its plugs
 
-known_kept : (old new : List Lasting) (sheet : SheetData) → KeepsPlugs old new → IsKnown old sheet → IsKnown new sheet
+pub known_kept : (old new : List Lasting) (sheet : SheetData) → KeepsPlugs old new → IsKnown old sheet → IsKnown new sheet
 known_kept old new sheet keeps known absent = known (record {
   plug = absent.plug;
   none = λ k low inside named.

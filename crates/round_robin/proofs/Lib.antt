@@ -1,7 +1,9 @@
 pub mod Asking
 pub mod AskingAll
+pub mod ByRule
 pub mod Contesting
 pub mod Counting
+pub mod Entering
 pub mod Paying
 pub mod Ranging
 pub mod Telling

@@ -6,9 +6,9 @@ use Rattle.player_core.specs.Fits.{Fits}
 use Rattle.player_core.specs.Bench.{KeepsBench, NoResumesFell, SameTurns}
 use Rattle.player_core.specs.Laws.{EntriesPlay, KeepingLasts}
 use Rattle.player_core.proofs.Growing.{none_fell_both, none_fell_same}
-use Rattle.round_robin.specs.declared.contestant.Contestant.{Contestant}
+use Rattle.sheet_rules.specs.declared.contestant.Contestant.{Contestant}
 use Rattle.round_robin.specs.Asked.{Turns, AreAsked, AtMostTurns, bench_turns, most_for}
-use Rattle.round_robin.specs.Contest.{AreTold, IsSureStrategy, Strategy, strategies_of, strategy_at, strategy_of}
+use Rattle.round_robin.specs.Contest.{AreTold, IsSureStrategy, Strategy, strategy_at, strategy_of}
 use Rattle.round_robin.specs.OnBench.{strategies_on}
 use Rattle.round_robin.proofs.Contesting.{bench_kept, strategies_kept}
 

@@ -6,7 +6,8 @@ use Rattle.player_core.specs.State.{Lasting, nobody}
 use Rattle.player_core.specs.Entry.{entry_automaton}
 use Rattle.match_play.specs.Known.{IsKnown}
 use Rattle.product_chain.specs.Expected.{IsSureMatch}
-use Rattle.round_robin.specs.declared.contestant.Contestant.{Contestant}
+use Rattle.sheet_rules.specs.declared.contestant.Contestant.{Contestant}
+use Rattle.sheet_rules.specs.Entrants.{Entrant, automaton_of_entrant}
 
 -- what an entry plays: an automaton, and the chance with which its moves are flipped
 pub record Strategy : Type 0 where
@@ -42,6 +43,14 @@ strategy_of players contestant = record { automaton = entry_automaton players co
 abbrev pub strategies_of : List Lasting → List Contestant → List Strategy
 strategies_of players contestants = map (strategy_of players) contestants
 
+-- what an entrant plays on a bench, and the noise of its moves
+abbrev pub strategy_of_entrant : List Lasting → Entrant → Strategy
+strategy_of_entrant players entrant = record { automaton = automaton_of_entrant players entrant; noise = entrant.noise }
+
+-- what all of them play, in their order
+abbrev pub entrant_strategies : List Lasting → List Entrant → List Strategy
+entrant_strategies players entrants = map (strategy_of_entrant players) entrants
+
 -- the bench has a player for a contestant
 abbrev pub IsContestant : List Lasting → Contestant → Type 0
 IsContestant players contestant = IsKnown players contestant.sheet.now
@@ -76,6 +85,10 @@ IsSurePair strategies pair =
     IsSureMatch left.automaton left.noise right.automaton right.noise
 
 -- a sure match has at most 10^12 turns, any other at most 10,000
-pub record AreFewTurns (strategies : List Strategy) (turns : ℕ) (pair : ℕ × ℕ) : Type 0 where
-  pub sure : IsSurePair strategies pair → turns ≤ 10 ^ 12
-  pub unsure : (IsSurePair strategies pair → ⊥) → turns ≤ 10000
+pub record IsShort (a b : Strategy) (turns : ℕ) : Type 0 where
+  pub sure : IsSureMatch a.automaton a.noise b.automaton b.noise → turns ≤ 10 ^ 12
+  pub unsure : (IsSureMatch a.automaton a.noise b.automaton b.noise → ⊥) → turns ≤ 10000
+
+-- so has the match of a pair
+abbrev pub AreFewTurns : List Strategy → ℕ → ℕ × ℕ → Type 0
+AreFewTurns strategies turns pair = IsShort (strategy_at strategies pair.0) (strategy_at strategies pair.1) turns

@@ -6,7 +6,7 @@ use Rattle.history_model.specs.Game.{Payoffs, IsGame}
 use Rattle.history_model.specs.Noise.{FlipRate, IsFlipRate}
 use Rattle.history_model.specs.Path.{match_path}
 use Rattle.history_model.specs.Tally.{counts, total, left_points, right_points}
-use Rattle.fixed_span.specs.Span.{Ends, Holds, score_units}
+use Rattle.fixed_span.specs.Span.{Holds, score_units}
 use Rattle.result_lines.specs.declared.line.MatchLine.{MatchLine}
 use Rattle.product_chain.specs.Expected.{expected_score, IsSureMatch}
 use Rattle.result_lines.specs.Totals.{IsScoreSpan}

@@ -1,5 +1,6 @@
 pub mod Asked
 pub mod Contest
+pub mod Entries
 pub mod Laws
 pub mod Line
 pub mod Totals

@@ -6,7 +6,7 @@ use Rattle.player_core.specs.State.{BenchState, players_of}
 use Rattle.player_core.specs.Entry.{entry_on}
 use Rattle.result_lines.specs.declared.line.MatchLine.{MatchLine}
 use Rattle.product_chain.specs.Expected.{IsSureMatch}
-use Rattle.round_robin.specs.declared.contestant.Contestant.{Contestant}
+use Rattle.sheet_rules.specs.declared.contestant.Contestant.{Contestant}
 use Rattle.round_robin.specs.declared.entrant.Entrant.{Entrant}
 use Rattle.round_robin.specs.Asked.{AreAsked, AtMostTurns, IsAsked, PairAsked, bench_turns, most_advances, most_for, most_of}
 use Rattle.round_robin.specs.Contest.{Strategy, strategies_of}

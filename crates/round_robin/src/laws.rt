@@ -1,4 +1,5 @@
 //! Laws, proved once: a caller has one by calling its function, which does nothing.
+ghost use Rattle.round_robin.specs.Entries.{EntriesAreTrue};
 ghost use Rattle.round_robin.specs.Laws.{LinesHold};
 ghost use Rattle.round_robin.specs.Truth.{RanksAreTrue, SumsAreHeld, TotalsHoldTrueTotals, TournamentsAreTrue};
 
@@ -6,6 +7,7 @@ use fixed_span::verdicts_are_true;
 use history_model::{
     automata_are_weighed, counts_are_paid, histories_agree_with_rows, offset_lowers,
 };
+use sheet_rules::entrants_follow_their_rules;
 
 /// A sure match pays as both sides expect, and so the line of every match holds what both expect.
 pub fn lines_hold()
@@ -41,4 +43,14 @@ pub fn tournaments_are_true()
     lines_hold();
     totals_hold_true_totals();
     ranks_are_true();
+}
+
+/// A line between what two entrants play is right by the rules of their sheets. So are all lines of a
+/// tournament, whose totals hold the true totals by these rules, and whose ranks are the true ranks where
+/// they aren't undecided.
+pub fn entries_are_true()
+    ensures { EntriesAreTrue }
+{
+    entrants_follow_their_rules();
+    tournaments_are_true();
 }

@@ -1,5 +1,5 @@
 use Rattle.std.proofs.Common.{◌≡◌, ◌++◌, map, drop}
-use Rattle.play_commands.specs.Contestants.{entrants_of}
+use Rattle.sheet_rules.specs.Entrants.{entrants_of}
 use Rattle.play_commands.specs.Machines.{still}
 use Rattle.play_commands.proofs.drill_job.contestants.Given as goal
 

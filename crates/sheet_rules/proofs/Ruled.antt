@@ -1,5 +1,5 @@
 -- The path of two automata is the one history that follows the rules by which they choose.
-use Rattle.std.proofs.Common.{◌≡◌, ◌⊎◌, ℕ, ◌<◌, ◌≤◌, ◌==◌, true, [], ◌∷◌, ◌++◌, length, if◌then◌else◌, refl, sym, ◌∙◌, ap, inl, inr, subst, arith}
+use Rattle.std.proofs.Common.{◌≡◌, ◌⊎◌, ℕ, ◌<◌, ◌≤◌, ◌==◌, [], ◌∷◌, length, if◌then◌else◌, refl, sym, ◌∙◌, ap, inl, inr, subst, arith}
 use Rattle.std.proofs.lemmas.Bool.Decides.{eqb_tells}
 use Rattle.history_model.specs.declared.moves.Move.{Move}
 use Rattle.history_model.specs.declared.moves.Move.TheVariants.{C, D}
@@ -7,8 +7,8 @@ use Rattle.history_model.specs.declared.moves.Play.{Play}
 use Rattle.history_model.specs.Automaton.{Automaton, IsAutomaton, IsSure, next_row, weight_at}
 use Rattle.history_model.specs.Expectation.{Chooser, ChooseAlike, player}
 use Rattle.history_model.specs.History.{History, turned, walk}
-use Rattle.history_model.specs.Path.{Follows, PathIsOne, match_path, sure_move, sure_play}
-use Rattle.play_commands.specs.ByRule.{IsByRules, IsForced, IsOnlyByRules}
+use Rattle.history_model.specs.Path.{Follows, PathIsOne, match_path, sure_move}
+use Rattle.sheet_rules.specs.ByRule.{IsForced, IsOnlyByRules}
 
 -- the move of a sure row is forced
 forced : (den weight : ℕ) → (weight ≡ 0) ⊎ (weight ≡ den) → IsForced den weight (if weight == den then C else D)

@@ -1,0 +1,5 @@
+use Rattle.round_robin.proofs.ByRule.{entries_are}
+use Rattle.round_robin.proofs.laws.entries_are_true.Goals as goal
+
+pub returns : goal.returns
+returns c = entries_are c.entrants_follow_their_rules.ensures c.tournaments_are_true.ensures

@@ -1,0 +1,4 @@
+pub mod ByRule
+pub mod Entrants
+pub mod Laws
+pub mod RightLine
