@@ -15,13 +15,13 @@ use Rattle.history_model.specs.Game.{Payoffs}
 use Rattle.result_lines.specs.declared.line.MatchLine.{MatchLine}
 use Rattle.round_robin.specs.Totals.{AreLines}
 use Rattle.round_robin.specs.Contest.{Strategy, IsContestant, AreContestants, IsPair, ArePairs, IsSurePair, AreFewTurns, strategy_at, strategy_of, strategies_of}
-use Rattle.lab_file.specs.declared.tournament.TournamentJob.{TournamentJob}
+use Rattle.job_tables.specs.declared.tournament.TournamentJob.{TournamentJob}
 use Rattle.lab_file.specs.declared.lab.Entry.{Entry}
 use Rattle.lab_file.specs.Lab.{LabData, AreEntries, IsTournamentJob, NamesDiffer, entry_at, no_entry}
 use Rattle.lab_file.specs.Limits.{MatchesAreKept, limits_by, pair_limits, pair_is_sure, tournament_limits}
 use Rattle.lab_file.specs.Notes.{AreNoted, NotesTell}
 use Rattle.lab_file.specs.Rows.{entry_rows}
-use Rattle.lab_file.specs.Tournament.{TournamentsAscend, tournament_pairs}
+use Rattle.job_tables.specs.Tournament.{TournamentsAscend, tournament_pairs}
 use Rattle.play_commands.specs.Contestants.{IsContestantOf, AreFirst, entrant_of, entrants_of, names_of}
 use Rattle.play_commands.specs.Entrants.{Entrant, IsEntrant}
 use Rattle.play_commands.specs.RightTournament.{AreEntrants, entrant_at, no_entrant, strategy_of_entrant}

@@ -20,7 +20,7 @@ use Rattle.lab_report.specs.Names.{name_at}
 use Rattle.lab_report.specs.Text.{report_text}
 use Rattle.lab_report.specs.Valid.{IsFirstOf, IsTotal, IsValid, first_names}
 use Rattle.report_making.specs.Made.{ShowsFirst, drill_report_of, first_order, moved_first}
-use Rattle.lab_file.specs.Tournament.{TournamentsAscend}
+use Rattle.job_tables.specs.Tournament.{TournamentsAscend}
 use Rattle.drill.specs.Drill.{drill_name, drill_sheets}
 use Rattle.play_commands.specs.Machines.{IsSmallTotal, IsWhole, drill_job, drill_pairs, first_of, first_places, is_first, line_at, machine_strategies, machine_totals, no_line, sum_of, sum_of_totals, total_at}
 use Rattle.play_commands.specs.RightDrill.{IsAskedDrill, IsRightDrill, drill_totals}

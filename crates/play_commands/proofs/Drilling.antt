@@ -18,7 +18,7 @@ use Rattle.round_robin.specs.Contest.{Strategy, IsContestant, AreContestants, Is
 use Rattle.play_commands.specs.Contestants.{entrant_of}
 use Rattle.play_commands.specs.Entrants.{Entrant}
 use Rattle.lab_report.specs.Valid.{drill_game}
-use Rattle.lab_file.specs.Tournament.{TournamentsAscend, tournament_pairs}
+use Rattle.job_tables.specs.Tournament.{TournamentsAscend, tournament_pairs}
 use Rattle.round_robin.specs.Asked.{Turns, AreAsked, AtMostTurns, most_for}
 use Rattle.round_robin.specs.Totals.{AreLines}
 use Rattle.play_commands.specs.Machines.{AreMachines, AreStill, drill_job, drill_pairs, machine_strategies, still}

@@ -24,7 +24,7 @@ use Rattle.result_lines.specs.Totals.{entry_of, entries_of, total_of, totals_of}
 use Rattle.round_robin.specs.Totals.{AreLines}
 use Rattle.round_robin.specs.Truth.{IsTrueTournament, SumsAreHeld, TournamentsAreTrue, expects_of, nothing, true_total, true_totals, true_rank}
 use Rattle.lab_report.specs.Valid.{drill_game}
-use Rattle.lab_file.specs.Tournament.{TournamentsAscend}
+use Rattle.job_tables.specs.Tournament.{TournamentsAscend}
 use Rattle.play_commands.specs.Entrants.{Entrant, expects_in}
 use Rattle.play_commands.specs.Machines.{AreMachines, IsSmallTotal, IsWhole, drill_job, drill_pairs, first_of, first_places, is_first, line_at, machine_expects, machine_strategies, machine_totals, no_line, still, sum_of, sum_of_totals, total_at}
 use Rattle.play_commands.specs.RightTournament.{entrant_at, no_entrant, strategy_of_entrant}

@@ -30,9 +30,9 @@ use Rattle.lab_report.specs.Text.{report_text, shown_match}
 use Rattle.lab_report.specs.Valid.{IsValid}
 use Rattle.report_making.specs.Made.{ShowsNames, moved_match, moved_matches, names_in_order, places_in, tournament_report_of}
 use Rattle.lab_file.specs.declared.lab.Entry.{Entry}
-use Rattle.lab_file.specs.declared.tournament.TournamentJob.{TournamentJob}
+use Rattle.job_tables.specs.declared.tournament.TournamentJob.{TournamentJob}
 use Rattle.lab_file.specs.Lab.{LabData, entry_at, no_entry}
-use Rattle.lab_file.specs.Tournament.{TournamentsAscend, tournament_pairs}
+use Rattle.job_tables.specs.Tournament.{TournamentsAscend, tournament_pairs}
 use Rattle.play_commands.specs.Contestants.{AreFirst, entrants_of, names_of}
 use Rattle.play_commands.specs.RightLine.{IsRightLine}
 use Rattle.play_commands.specs.RightTournament.{AreEntrants, IsRightPair, IsRightEntry, IsRightTournament, IsAskedTournament, entrant_at, expects_at}

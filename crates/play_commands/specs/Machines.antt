@@ -13,8 +13,8 @@ use Rattle.result_lines.specs.declared.tables.EntryLine.{EntryLine}
 use Rattle.round_robin.specs.Contest.{Strategy}
 use Rattle.round_robin.specs.Truth.{nothing, plus, true_totals, true_rank}
 use Rattle.lab_report.specs.Valid.{drill_game}
-use Rattle.lab_file.specs.declared.tournament.TournamentJob.{TournamentJob}
-use Rattle.lab_file.specs.Tournament.{tournament_pairs}
+use Rattle.job_tables.specs.declared.tournament.TournamentJob.{TournamentJob}
+use Rattle.job_tables.specs.Tournament.{tournament_pairs}
 use Rattle.play_commands.specs.Contestants.{entrants_of}
 use Rattle.play_commands.specs.Entrants.{Entrant, expects_in}
 use Rattle.play_commands.specs.RightTournament.{entrant_at, strategy_of_entrant}

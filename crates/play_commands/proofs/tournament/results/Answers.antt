@@ -1,7 +1,7 @@
 use Rattle.std.proofs.Common.{length, ap, inr, ◌∙◌}
 use Rattle.result_lines.specs.Totals.{entries_of}
 use Rattle.lab_file.specs.Lab.{LabData}
-use Rattle.lab_file.specs.Tournament.{tournament_pairs}
+use Rattle.job_tables.specs.Tournament.{tournament_pairs}
 use Rattle.play_commands.proofs.Contesting.{are_contestants, are_pairs, are_pairs_of, are_few_turns, few_turns_of}
 use Rattle.play_commands.proofs.TableLines.{results_shown_on}
 use Rattle.play_commands.proofs.Sparing.{may_pairs, nobody}
