@@ -17,7 +17,8 @@ use Rattle.round_robin.specs.Totals.{AreLines}
 use Rattle.round_robin.specs.Contest.{Strategy, IsContestant, AreContestants, IsPair, ArePairs, IsSurePair, AreFewTurns, strategy_at, strategy_of, strategies_of}
 use Rattle.job_tables.specs.declared.tournament.TournamentJob.{TournamentJob}
 use Rattle.lab_file.specs.declared.lab.Entry.{Entry}
-use Rattle.lab_file.specs.Lab.{LabData, AreEntries, IsTournamentJob, NamesDiffer, entry_at, no_entry}
+use Rattle.job_tables.specs.Jobs.{IsTournamentJob}
+use Rattle.lab_file.specs.Lab.{LabData, AreEntries, NamesDiffer, entry_at, no_entry}
 use Rattle.lab_file.specs.Limits.{MatchesAreKept, limits_by, pair_limits, pair_is_sure, tournament_limits}
 use Rattle.lab_file.specs.Notes.{AreNoted, NotesTell}
 use Rattle.lab_file.specs.Rows.{entry_rows}
