@@ -24,13 +24,13 @@ use Rattle.lab_file.specs.Limits.{limits_of}
 use Rattle.lab_file.specs.Notes.{IsNotedDraft, AreNoted, LabsAreNoted}
 use Rattle.axlab_core.specs.declared.load.LoadError.{LoadError}
 use Rattle.axlab_core.specs.declared.load.LoadError.TheVariants.{Unread, Refused, NoMemory}
-use Rattle.axlab_core.specs.Loading.{Stop, Missing, Refuses, ◌>>=◌, or_missing, or_stop, file_source, part_source, machine_source, lab_read, draft_read, entries_read, Loads, IsTold}
+use Rattle.axlab_core.specs.Loading.{Stop, Missing, Refuses, ◌>>=◌, or_missing, or_stop, file_source, part_source, machine_source, lab_read, draft_read, entries_read, lab_for, lab_kept, Loads, IsTold}
 use Rattle.play_commands.specs.Ready.{IsReadyDraft, IsReadyEntry}
 use Rattle.axlab_core.specs.Steps.{of_file, ReadFails, Explains, ReadsLab, Attaches, AttachStops, AttachesAll, AttachAllStops, ReadsSecond, LoadsInput}
 use Rattle.refusals.specs.declared.refusal.FileRole.{FileRole}
 use Rattle.axlab_core.specs.declared.second.Second.{Second}
 use Rattle.axlab_core.specs.declared.second.Second.TheVariants.{Alone}
-use Rattle.axlab_core.specs.Input.{OfLab, longest, second_for, second_of, second_read, second_role}
+use Rattle.axlab_core.specs.Input.{Names, OfLab, loaded_for, longest, second_for, second_of, second_read, second_role, sources}
 
 -- what a read gave is what the source has
 gave_part : (limit : ℕ) (holding : Option Holding) (name bytes : List ℕ) → IsFront holding name limit bytes → part_source limit holding bytes name ≡ Some bytes
@@ -319,33 +319,31 @@ all_noted labs notes name holding later first lab reads all =
     (first_noted labs notes (file_source holding reads.given name) first reads.is) all.is
 
 -- the whole
-pub loads_lab : (command : Command) (notes : List PlugNote) (name : List ℕ) (holding : Option Holding) (first lab : LabData) (limits : Result (Unit {0}) Refusal)
-    → ReadsLab notes name holding (Ok first) → AttachesAll holding first lab → limits_of notes command lab ≡ limits
-    → Loads command notes name holding (or_stop limits >>= λ kept. Ok lab)
-loads_lab command notes name holding first lab limits reads attaches is = record {
+pub loads_lab : (notes : List PlugNote) (name : List ℕ) (holding : Option Holding) (first lab : LabData)
+    → ReadsLab notes name holding (Ok first) → AttachesAll holding first lab → Loads notes name holding (Ok lab)
+loads_lab notes name holding first lab reads attaches = record {
   lab_given = reads.given;
   machines_given = attaches.given;
-  is = ap (λ r. r >>= λ (l : LabData). entries_read (machine_source holding attaches.given) [] l.entries >>= λ es. or_stop (limits_of notes command (record l { entries = es })) >>= λ kept. Ok (record l { entries = es })) reads.is
-      ∙ ap (λ r. r >>= λ es. or_stop (limits_of notes command (record first { entries = es })) >>= λ kept. Ok (record first { entries = es })) attaches.is
-      ∙ ap (λ (l : LabData). or_stop (limits_of notes command l) >>= λ kept. Ok l) (sym attaches.rest)
-      ∙ ap (λ r. or_stop r >>= λ kept. Ok lab) is;
+  is = ap (λ r. r >>= λ (l : LabData). entries_read (machine_source holding attaches.given) [] l.entries >>= λ es. Ok (record l { entries = es })) reads.is
+      ∙ ap (λ r. r >>= λ es. Ok (record first { entries = es })) attaches.is
+      ∙ ap (λ (l : LabData). Ok l) (sym attaches.rest);
 }
 
-pub stops_attaching : (command : Command) (notes : List PlugNote) (name : List ℕ) (holding : Option Holding) (first : LabData) (stop : Stop)
-    → ReadsLab notes name holding (Ok first) → AttachAllStops holding first stop → Loads command notes name holding (Err stop)
-stops_attaching command notes name holding first stop reads stops = record {
+pub stops_attaching : (notes : List PlugNote) (name : List ℕ) (holding : Option Holding) (first : LabData) (stop : Stop)
+    → ReadsLab notes name holding (Ok first) → AttachAllStops holding first stop → Loads notes name holding (Err stop)
+stops_attaching notes name holding first stop reads stops = record {
   lab_given = reads.given;
   machines_given = stops.given;
-  is = ap (λ r. r >>= λ (l : LabData). entries_read (machine_source holding stops.given) [] l.entries >>= λ es. or_stop (limits_of notes command (record l { entries = es })) >>= λ kept. Ok (record l { entries = es })) reads.is
-      ∙ ap (λ r. r >>= λ es. or_stop (limits_of notes command (record first { entries = es })) >>= λ kept. Ok (record first { entries = es })) stops.is;
+  is = ap (λ r. r >>= λ (l : LabData). entries_read (machine_source holding stops.given) [] l.entries >>= λ es. Ok (record l { entries = es })) reads.is
+      ∙ ap (λ r. r >>= λ es. Ok (record first { entries = es })) stops.is;
 }
 
-pub stops_reading : (command : Command) (notes : List PlugNote) (name : List ℕ) (holding : Option Holding) (stop : Stop)
-    → ReadsLab notes name holding (Err stop) → Loads command notes name holding (Err stop)
-stops_reading command notes name holding stop reads = record {
+pub stops_reading : (notes : List PlugNote) (name : List ℕ) (holding : Option Holding) (stop : Stop)
+    → ReadsLab notes name holding (Err stop) → Loads notes name holding (Err stop)
+stops_reading notes name holding stop reads = record {
   lab_given = reads.given;
   machines_given = [];
-  is = ap (λ r. r >>= λ (l : LabData). entries_read (machine_source holding []) [] l.entries >>= λ es. or_stop (limits_of notes command (record l { entries = es })) >>= λ kept. Ok (record l { entries = es })) reads.is;
+  is = ap (λ r. r >>= λ (l : LabData). entries_read (machine_source holding []) [] l.entries >>= λ es. Ok (record l { entries = es })) reads.is;
 }
 
 -- the second file
@@ -370,32 +368,53 @@ lacks_second command role name holding has missing = record {
 pub reads_none : (command : Command) (name : List ℕ) (holding : Option Holding) → second_role command ≡ None → ReadsSecond command name holding (Ok Alone)
 reads_none command name holding none = record { given = []; is = ap (λ r. second_read r (λ limit. part_source limit holding [] name)) none }
 
--- the files of a command
-pub loads_both : (command : Command) (notes : List PlugNote) (name second_name : List ℕ) (holding later : Option Holding) (lab : LabData) (second : Second)
-    → later ≡ holding → Loads command notes name holding (Ok lab) → ReadsSecond command second_name later (Ok second)
-    → LoadsInput command notes (record { lab = name; second = second_name }) holding (Ok (OfLab lab second))
-loads_both command notes name second_name holding later lab second same loads reads_later =
-    let reads : ReadsSecond command second_name holding (Ok second) = rw same at reads_later in
+-- the files of a command, and between them the limits of its job
+
+-- the lab of the command, or why there is none
+for_lab : (command : Command) (notes : List PlugNote) (name : List ℕ) (holding : Option Holding) (found : Result LabData Stop) → (loads : Loads notes name holding found)
+    → lab_for command notes (file_source holding loads.lab_given name) (machine_source holding loads.machines_given) ≡ (found >>= lab_kept command notes)
+for_lab command notes name holding found loads = ap (λ r. r >>= lab_kept command notes) loads.is
+
+-- what is loaded once the limits have given this answer
+by_limits : (command : Command) (notes : List PlugNote) (names : Names) (holding : Option Holding) (lab : LabData) (limits : Result (Unit {0}) Refusal) (second : List ℕ)
+    → (loads : Loads notes names.lab holding (Ok lab)) → limits_of notes command lab ≡ limits
+    → loaded_for command notes (sources names holding (record { lab = loads.lab_given; machines = loads.machines_given; second = second }))
+    ≡ ((or_stop limits >>= λ kept. Ok lab) >>= λ (l : LabData). second_for command (λ limit. part_source limit holding second names.second) >>= λ s. Ok (OfLab l s))
+by_limits command notes names holding lab limits second loads is =
+    ap (λ r. r >>= λ (l : LabData). second_for command (λ limit. part_source limit holding second names.second) >>= λ s. Ok (OfLab l s))
+    (for_lab command notes names.lab holding (Ok lab) loads ∙ ap (λ r. or_stop r >>= λ kept. Ok lab) is)
+
+pub loads_both : (command : Command) (notes : List PlugNote) (names : Names) (holding later : Option Holding) (lab : LabData) (second : Second)
+    → later ≡ holding → Loads notes names.lab holding (Ok lab) → limits_of notes command lab ≡ Ok tt → ReadsSecond command names.second later (Ok second)
+    → LoadsInput command notes names holding (Ok (OfLab lab second))
+loads_both command notes names holding later lab second same loads kept reads_later =
+    let reads : ReadsSecond command names.second holding (Ok second) = rw same at reads_later in
     record {
       given = record { lab = loads.lab_given; machines = loads.machines_given; second = reads.given };
-      is = ap (λ r. r >>= λ (l : LabData). second_for command (λ limit. part_source limit holding reads.given second_name) >>= λ s. Ok (OfLab l s)) loads.is
-          ∙ ap (λ r. r >>= λ s. Ok (OfLab lab s)) reads.is;
+      is = by_limits command notes names holding lab (Ok tt) reads.given loads kept ∙ ap (λ r. r >>= λ s. Ok (OfLab lab s)) reads.is;
     }
 
-pub stops_second : (command : Command) (notes : List PlugNote) (name second_name : List ℕ) (holding later : Option Holding) (lab : LabData) (stop : Stop)
-    → later ≡ holding → Loads command notes name holding (Ok lab) → ReadsSecond command second_name later (Err stop)
-    → LoadsInput command notes (record { lab = name; second = second_name }) holding (Err stop)
-stops_second command notes name second_name holding later lab stop same loads reads_later =
-    let reads : ReadsSecond command second_name holding (Err stop) = rw same at reads_later in
+pub stops_second : (command : Command) (notes : List PlugNote) (names : Names) (holding later : Option Holding) (lab : LabData) (stop : Stop)
+    → later ≡ holding → Loads notes names.lab holding (Ok lab) → limits_of notes command lab ≡ Ok tt → ReadsSecond command names.second later (Err stop)
+    → LoadsInput command notes names holding (Err stop)
+stops_second command notes names holding later lab stop same loads kept reads_later =
+    let reads : ReadsSecond command names.second holding (Err stop) = rw same at reads_later in
     record {
       given = record { lab = loads.lab_given; machines = loads.machines_given; second = reads.given };
-      is = ap (λ r. r >>= λ (l : LabData). second_for command (λ limit. part_source limit holding reads.given second_name) >>= λ s. Ok (OfLab l s)) loads.is
-          ∙ ap (λ r. r >>= λ s. Ok (OfLab lab s)) reads.is;
+      is = by_limits command notes names holding lab (Ok tt) reads.given loads kept ∙ ap (λ r. r >>= λ s. Ok (OfLab lab s)) reads.is;
     }
 
-pub stops_first : (command : Command) (notes : List PlugNote) (name second_name : List ℕ) (holding : Option Holding) (stop : Stop)
-    → Loads command notes name holding (Err stop) → LoadsInput command notes (record { lab = name; second = second_name }) holding (Err stop)
-stops_first command notes name second_name holding stop loads = record {
+pub stops_limits : (command : Command) (notes : List PlugNote) (names : Names) (holding : Option Holding) (lab : LabData) (refusal : Refusal)
+    → Loads notes names.lab holding (Ok lab) → limits_of notes command lab ≡ Err refusal → LoadsInput command notes names holding (Err (Refuses refusal))
+stops_limits command notes names holding lab refusal loads refused = record {
   given = record { lab = loads.lab_given; machines = loads.machines_given; second = [] };
-  is = ap (λ r. r >>= λ (l : LabData). second_for command (λ limit. part_source limit holding [] second_name) >>= λ s. Ok (OfLab l s)) loads.is;
+  is = by_limits command notes names holding lab (Err refusal) [] loads refused;
+}
+
+pub stops_first : (command : Command) (notes : List PlugNote) (names : Names) (holding : Option Holding) (stop : Stop)
+    → Loads notes names.lab holding (Err stop) → LoadsInput command notes names holding (Err stop)
+stops_first command notes names holding stop loads = record {
+  given = record { lab = loads.lab_given; machines = loads.machines_given; second = [] };
+  is = ap (λ r. r >>= λ (l : LabData). second_for command (λ limit. part_source limit holding [] names.second) >>= λ s. Ok (OfLab l s))
+      (for_lab command notes names.lab holding (Err stop) loads);
 }

@@ -64,20 +64,27 @@ entries_read source done (entry ∷ rest) = do
 abbrev pub lab_read : List PlugNote → Option (List ℕ) → Result LabData Stop
 lab_read notes found = or_missing found >>= λ bytes. or_stop (lab_of notes bytes)
 
--- the lab of a command: the lab file, then the machine files in the order of the entries, then the limits of the job
-abbrev pub lab_for : Command → List PlugNote → Option (List ℕ) → (ℕ → List ℕ → Option (List ℕ)) → Result LabData Stop
-lab_for command notes lab_bytes source = do
+-- the lab with its files: the lab file, then the machine files in the order of the entries
+abbrev pub lab_filed : List PlugNote → Option (List ℕ) → (ℕ → List ℕ → Option (List ℕ)) → Result LabData Stop
+lab_filed notes lab_bytes source = do
   lab ← lab_read notes lab_bytes
   entries ← entries_read source [] lab.entries
-  kept ← or_stop (limits_of notes command (record lab { entries = entries }))
   Ok (record lab { entries = entries })
 
--- over this library the lab of this name comes to this answer: by what the library holds, where it tells it, whatever was given;
+-- the lab again where its job of a command keeps the limits
+abbrev pub lab_kept : Command → List PlugNote → LabData → Result LabData Stop
+lab_kept command notes lab = or_stop (limits_of notes command lab) >>= λ kept. Ok lab
+
+-- the lab of a command: with its files, and then the limits of the job
+abbrev pub lab_for : Command → List PlugNote → Option (List ℕ) → (ℕ → List ℕ → Option (List ℕ)) → Result LabData Stop
+lab_for command notes lab_bytes source = lab_filed notes lab_bytes source >>= lab_kept command notes
+
+-- over this library the lab of this name, with its files, comes to this answer: by what the library holds, where it tells it, whatever was given;
 -- else by some bytes that the reads gave
-pub record Loads (command : Command) (notes : List PlugNote) (name : List ℕ) (holding : Option Holding) (answer : Result LabData Stop) : Type 0 where
+pub record Loads (notes : List PlugNote) (name : List ℕ) (holding : Option Holding) (answer : Result LabData Stop) : Type 0 where
   pub lab_given : List ℕ
   pub machines_given : List (List ℕ)
-  pub is : lab_for command notes (file_source holding lab_given name) (machine_source holding machines_given) ≡ answer
+  pub is : lab_filed notes (file_source holding lab_given name) (machine_source holding machines_given) ≡ answer
 
 -- the library tells what it holds
 abbrev pub IsTold : Option Holding → Type 0

@@ -1,21 +1,17 @@
-//! Loads the lab of a command: the lab file, then the files of its machines, then the limits.
+//! Loads the lab of a command: the lab file, then the files of its machines.
 ghost use Rattle.std.specs.Prelude.{◌≡◌, ◌<◌, ◌≤◌, ◌^◌, [], ◌∷◌, ◌++◌, All, length, Ok, Err, IfOk, IfErr, OnOk};
 ghost use Rattle.lab_ports.specs.Causes.{Rose};
 ghost use Rattle.lab_ports.specs.Holding.{IsFront, IsMissing};
 ghost use Rattle.lab_file.specs.Lab.{entry_at};
-ghost use Rattle.lab_file.specs.Limits.{limits_of};
 ghost use Rattle.lab_file.specs.Notes.{AreNoted};
 ghost use Rattle.axlab_core.specs.Loading.{Loads, IsTold};
 ghost use Rattle.play_commands.specs.Ready.{IsReadyEntry};
-ghost use Rattle.axlab_core.specs.Steps.{Attaches, AttachesAll, AttachStops, AttachAllStops, Explains, IsFit, LoadsInput, ReadFails, ReadsLab};
-ghost use Rattle.axlab_core.specs.Files.{AskedFront, AskedInOrder, AskedLab, AskedWholeLab, machine_file, machine_files};
-ghost use Rattle.axlab_core.specs.Input.{OfLab};
-ghost use Rattle.axlab_core.specs.declared.words.Form.TheVariants as forms;
+ghost use Rattle.axlab_core.specs.Steps.{Attaches, AttachesAll, AttachStops, AttachAllStops, Explains, ReadFails, ReadsLab};
+ghost use Rattle.axlab_core.specs.Files.{AskedFront, AskedLab, AskedWholeLab, machine_file, machine_files};
 
 use crate::Status;
-use crate::second::{Second, read_second};
 use lab_file::laws::labs_are_noted;
-use lab_file::{Command, Lab, read_lab};
+use lab_file::{Lab, read_lab};
 use lab_ports::{FileError, Library, LibraryError, Refusal};
 use player_core::PlugNote;
 use std::alloc::Global;
@@ -140,56 +136,25 @@ fn attach_files<L: Library>(alloc: Global, lab: &mut Lab, files: &mut L) -> Resu
     Ok(())
 }
 
-/// What the files of a command give.
-#[derive(Drop)]
-pub(crate) struct Loaded {
-    pub(crate) lab: Lab,
-    pub(crate) second: Second,
-}
-
-// The lab of a command over these files, whose job keeps the limits. The notes are of the bench's
-// plugs. The lab file is read first, then the file of each entry that names one, in file order.
-fn load_lab<L: Library>(
+/// The lab of this name with its files, over a bench whose plugs have these notes. The lab file is
+/// read first, then the file of each entry that names one, in file order.
+pub(crate) fn load_lab<L: Library>(
     alloc: Global,
-    command: Command,
     name: &str,
     notes: &Vec<PlugNote>,
     files: &mut L,
 ) -> Result<Lab, LoadError>
     ensures asked { AskedLab name.now notes.now.items (L.holding files.old) (L.asked files.old) (L.asked files.new) }
     ensures all_asked { IfOk result (λ _. AskedWholeLab name.now notes.now.items (L.holding files.old) (L.asked files.old) (L.asked files.new)) }
-    ensures loads { IfOk result (λ lab. Loads command notes.now.items name.now (L.holding files.old) (Ok lab)) }
+    ensures loads { IfOk result (λ lab. Loads notes.now.items name.now (L.holding files.old) (Ok lab)) }
     ensures ready { IfOk result (λ lab. All IsReadyEntry lab.entries) }
     ensures noted { IfOk result (λ lab. AreNoted notes.now.items lab.entries) }
-    ensures kept { IfOk result (λ lab. limits_of notes.now.items command lab ≡ Ok tt) }
-    ensures stops { IfErr result (λ error. Explains error (Rose (L.faults files.old) (L.faults files.new)) (IsTold (L.holding files.old)) (λ stop. Loads command notes.now.items name.now (L.holding files.old) (Err stop))) }
+    ensures stops { IfErr result (λ error. Explains error (Rose (L.faults files.old) (L.faults files.new)) (IsTold (L.holding files.old)) (λ stop. Loads notes.now.items name.now (L.holding files.old) (Err stop))) }
     ensures held { L.holding files.new ≡ L.holding files.old }
     ensures later { L.faults files.old ≤ L.faults files.new }
 {
     labs_are_noted();
     let mut lab = read_first(alloc, name, notes, files)?;
     attach_files(alloc, &mut lab, files)?;
-    match lab.limits(command, notes) {
-        Ok(()) => Ok(lab),
-        Err(refusal) => Err(LoadError::Refused(refusal)),
-    }
-}
-
-/// The lab of a command, and then what its second file gives.
-pub(crate) fn load_input<L: Library>(
-    alloc: Global,
-    command: Command,
-    name: &str,
-    second_name: &str,
-    notes: &Vec<PlugNote>,
-    files: &mut L,
-) -> Result<Loaded, LoadError>
-    ensures asked { AskedInOrder (forms.Lab command) (record { lab = name.now; second = second_name.now }) notes.now.items (L.holding files.old) (L.asked files.old) (L.asked files.new) }
-    ensures loads { IfOk result (λ loaded. LoadsInput command notes.now.items (record { lab = name.now; second = second_name.now }) (L.holding files.old) (Ok (OfLab loaded.lab loaded.second))) }
-    ensures fit { IfOk result (λ loaded. IsFit command notes.now.items loaded.lab) }
-    ensures stops { IfErr result (λ error. Explains error (Rose (L.faults files.old) (L.faults files.new)) (IsTold (L.holding files.old)) (λ stop. LoadsInput command notes.now.items (record { lab = name.now; second = second_name.now }) (L.holding files.old) (Err stop))) }
-{
-    let lab = load_lab(alloc, command, name, notes, files)?;
-    let second = read_second(alloc, command, second_name, files)?;
-    Ok(Loaded { lab, second })
+    Ok(lab)
 }

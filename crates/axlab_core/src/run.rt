@@ -6,6 +6,7 @@ ghost use Rattle.player_core.specs.Bench.{KeepsBench, notes_of};
 ghost use Rattle.lab_ports.specs.Causes.{Rose};
 ghost use Rattle.lab_ports.specs.Holding.{Grew, GrewByPart};
 ghost use Rattle.refusals.specs.declared.refusal.Refusal.TheVariants.{NotBuilt};
+ghost use Rattle.lab_file.specs.Limits.{HasJob, command_of};
 ghost use Rattle.axlab_core.specs.Complete.{MustAnswer, MustDrill, MustMiss, MustRefuse, MustStop};
 ghost use Rattle.axlab_core.specs.Bounded.{IsBounded};
 ghost use Rattle.axlab_core.specs.Files.{ReadsInOrder};
@@ -19,12 +20,13 @@ ghost use Rattle.axlab_core.specs.WordList.{word_list};
 ghost use Rattle.axlab_core.specs.Words.{form_of, lab_name, second_name, needs_lab};
 ghost use Rattle.axlab_core.specs.declared.words.Form.TheVariants as forms;
 
-use crate::load::{Loaded, load_input};
+use crate::load::load_lab;
 use crate::output::{Hindrance, Output, deliver};
+use crate::second::{Second, read_second};
 use crate::telling::tell;
 use crate::world::Watched;
 use crate::{Form, Status};
-use lab_file::Command;
+use lab_file::{Command, Job, Lab};
 use lab_ports::{Library, Refusal, Sink};
 use play_commands::{drill, lab_match, lab_tournament};
 use player_core::laws::keeping_lasts;
@@ -61,35 +63,36 @@ fn serve_drill(alloc: Global, number: u64, bench: &mut Bench) -> Result<Output, 
     }
 }
 
-// The work of a command with a lab, for which the bench's players are asked.
+// The work on a lab's job, for which the bench's players are asked. No job needs a second file yet.
 fn serve(
     alloc: Global,
-    command: Command,
-    loaded: &Loaded,
+    lab: &Lab,
+    job: Job<'_>,
+    second: &Second,
     notes: &Vec<PlugNote>,
     bench: &mut Bench,
 ) -> Result<Output, Hindrance>
     requires fits { Fits (⟦<Bench as Seen>⟧.view bench.old) }
     requires notes { notes.now.items ≡ notes_of (players_of (⟦<Bench as Seen>⟧.view bench.old)) }
-    requires fit { IsFit command notes.now.items loaded.now.lab }
-    ensures served { Serves (forms.Lab command) (⟦<Bench as Seen>⟧.view bench.old) (⟦<Bench as Seen>⟧.view bench.new) (OfLab loaded.now.lab loaded.now.second) result }
+    requires job { HasJob lab.now job }
+    requires fit { IsFit (command_of job) notes.now.items lab.now }
+    ensures served { Serves (forms.Lab (command_of job.entry)) (⟦<Bench as Seen>⟧.view bench.old) (⟦<Bench as Seen>⟧.view bench.new) (OfLab lab.now second.now) result }
     ensures kept { KeepsBench (⟦<Bench as Seen>⟧.view bench.old) (⟦<Bench as Seen>⟧.view bench.new) }
 {
-    match command {
-        Command::Match => match lab_match(alloc, &loaded.lab, notes, bench) {
+    match job {
+        Job::Match(_) => match lab_match(alloc, lab, notes, bench) {
             Ok(report) => Ok(Output::Report(report)),
             Err(_) => Err(Hindrance::NoMemory),
         },
-        Command::Tournament => match lab_tournament(alloc, &loaded.lab, notes, bench) {
+        Job::Tournament(_) => match lab_tournament(alloc, lab, notes, bench) {
             Ok(report) => Ok(Output::Report(report)),
             Err(_) => Err(Hindrance::NoMemory),
         },
-        // The limits refuse every other command.
-        _ => unreachable!(),
     }
 }
 
-// A command with a lab, over a bench whose plugs have these notes.
+// A command with a lab, over a bench whose plugs have these notes: the lab with its files, then the
+// limits of its job, then the second file, then the work.
 fn answer_lab<L: Library, O: Sink>(
     alloc: Global,
     command: Command,
@@ -106,16 +109,17 @@ fn answer_lab<L: Library, O: Sink>(
     ensures kept { KeepsBench (⟦<Bench as Seen>⟧.view bench.old) (⟦<Bench as Seen>⟧.view bench.new) }
 {
     keeping_lasts();
-    match load_input(
-        alloc,
-        command,
-        lab_name(words),
-        second_name(words),
-        notes,
-        files,
-    ) {
-        Ok(loaded) => {
-            let served = serve(alloc, command, &loaded, notes, bench);
+    let lab = match load_lab(alloc, lab_name(words), notes, files) {
+        Ok(lab) => lab,
+        Err(error) => return error.status(),
+    };
+    let job = match lab.job(command, notes) {
+        Ok(job) => job,
+        Err(refusal) => return Status::Refused(refusal),
+    };
+    match read_second(alloc, command, second_name(words), files) {
+        Ok(second) => {
+            let served = serve(alloc, &lab, job, &second, notes, bench);
             deliver(alloc, served, out)
         }
         Err(error) => error.status(),

@@ -10,7 +10,8 @@ use Rattle.refusals.specs.declared.place.KeyName.TheVariants as key
 use Rattle.lab_keys.specs.Keys.{table_of}
 use Rattle.refusals.specs.Refusing.{◌>>=◌}
 use Rattle.lab_file.specs.declared.lab.Entry.{Entry}
-use Rattle.lab_file.specs.LabOf.{top, entry_of, entries_from}
+use Rattle.job_tables.specs.JobsOf.{top}
+use Rattle.lab_file.specs.LabOf.{entry_of, entries_from}
 
 from_here : (values : List Value) (i : ℕ) (value : Value) → i < length values → value ≡ get_or values i value → drop i values ≡ value ∷ drop (i + 1) values
 from_here values i value inside is = rw (add-one i, drop-cons values i value) (ap (λ v. v ∷ drop (suc i) values) (sym is))

@@ -28,8 +28,9 @@ use Rattle.game_file.specs.GameOf.{game_of}
 use Rattle.strategy_file.specs.SheetOf.{at, vector_of, machine_in_lab, machine_in_file, machine_from, machine_of, table_weights, table_of, plug_named, plug_of, ready, draft_of_kind, draft_of}
 use Rattle.lab_file.specs.declared.lab.Entry.{Entry}
 use Rattle.lab_file.specs.Attached.{draft_with}
-use Rattle.lab_file.specs.Lab.{LabData}
-use Rattle.lab_file.specs.LabOf.{top, version_at, new_name, entry_of, are_tables, entries_from, entries_of, entries_at, jobs_of, longest_file, reading, lab_in, lab_of}
+use Rattle.lab_file.specs.Lab.{LabData, names_of}
+use Rattle.job_tables.specs.JobsOf.{top, jobs_of}
+use Rattle.lab_file.specs.LabOf.{version_at, new_name, entry_of, are_tables, entries_from, entries_of, entries_at, longest_file, reading, lab_in, lab_of}
 use Rattle.lab_file.specs.Notes.{has_note, IsNoted, IsNotedDraft, AreNoted, LabsAreNoted}
 
 -- each answer is so
@@ -197,7 +198,7 @@ document_noted notes tree =
     behind (version_at tree) (λ version _.
     behind (game_of version tree) (λ game _.
     behind (entries_at notes game.2 tree) (λ entries is.
-    behind (jobs_of entries tree) (λ jobs _.
+    behind (jobs_of (names_of entries) tree) (λ jobs _.
     one _ _ ((key_noted notes game.2 tree).at entries is)))))
 
 lab_noted : (notes : List PlugNote) (bytes : List ℕ) → Only (IsNotedLab notes) (lab_of notes bytes)

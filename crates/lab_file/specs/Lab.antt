@@ -1,15 +1,12 @@
 -- A lab: the game, the entries and the jobs that a lab file stands for.
-use Rattle.std.specs.Prelude.{ℕ, ◌≡◌, ◌≢◌, ◌<◌, ◌≤◌, ◌^◌, false, List, [], length, slice_index_or, All, AllPairs, IfSome}
+use Rattle.std.specs.Prelude.{ℕ, ◌≢◌, ◌<◌, ◌≤◌, List, [], length, map, slice_index_or}
 use Rattle.history_model.specs.declared.moves.Move.TheVariants.{C}
 use Rattle.history_model.specs.Game.{Payoffs}
 use Rattle.history_model.specs.Noise.{FlipRate, no_noise}
 use Rattle.strategy_file.specs.declared.draft.Draft.TheVariants.{FromFile}
 use Rattle.lab_file.specs.declared.lab.Entry.{Entry}
-use Rattle.lab_file.specs.declared.jobs.Jobs.{Jobs}
-use Rattle.lab_file.specs.declared.jobs.MatchJob.{MatchJob}
-use Rattle.lab_file.specs.declared.tournament.Edge.{Edge}
-use Rattle.lab_file.specs.declared.tournament.TournamentJob.{TournamentJob}
-use Rattle.lab_file.specs.Tournament.{joins}
+use Rattle.job_tables.specs.declared.jobs.Jobs.{Jobs}
+use Rattle.job_tables.specs.Jobs.{AreJobs}
 
 -- the game is the one of the file with the offset added to each payoff
 pub record LabData : Type 0 where
@@ -27,6 +24,10 @@ no_entry = record { name = []; draft = FromFile (record { file = []; start = 0; 
 abbrev pub entry_at : List Entry → ℕ → Entry
 entry_at entries place = slice_index_or entries place no_entry
 
+-- the names of entries, in file order
+abbrev pub names_of : List Entry → List (List ℕ)
+names_of entries = map (λ entry. entry.name) entries
+
 -- no two entries have one name
 abbrev pub NamesDiffer : List Entry → Type 0
 NamesDiffer entries = (j k : ℕ) → j < k → k < length entries → (entry_at entries j).name ≢ (entry_at entries k).name
@@ -36,31 +37,6 @@ pub record AreEntries (entries : List Entry) : Type 0 where
   pub some : 1 ≤ length entries
   pub few : length entries ≤ 64
   pub differ : NamesDiffer entries
-
--- a match between two of so many entries, of 1 to 10^12 turns
-pub record IsMatchJob (count : ℕ) (job : MatchJob) : Type 0 where
-  pub left : job.left < count
-  pub right : job.right < count
-  pub some_turns : 1 ≤ job.turns
-  pub few_turns : job.turns ≤ 10 ^ 12
-
--- edges between so many entries: none joins an entry with itself, or the two of an earlier one
-pub record AreEdges (count : ℕ) (edges : List Edge) : Type 0 where
-  pub left : All (λ (edge : Edge). edge.left < count) edges
-  pub right : All (λ (edge : Edge). edge.right < count) edges
-  pub apart : All (λ (edge : Edge). edge.left ≢ edge.right) edges
-  pub differ : AllPairs (λ (edge later : Edge). joins later.left later.right edge ≡ false) edges
-
--- a tournament of so many entries, of 1 to 10^12 turns a match
-pub record IsTournamentJob (count : ℕ) (job : TournamentJob) : Type 0 where
-  pub some_turns : 1 ≤ job.turns
-  pub few_turns : job.turns ≤ 10 ^ 12
-  pub edges : IfSome job.edges (AreEdges count)
-
--- each job is one of so many entries
-pub record AreJobs (count : ℕ) (jobs : Jobs) : Type 0 where
-  pub match_job : IfSome jobs.match_job (IsMatchJob count)
-  pub tournament_job : IfSome jobs.tournament_job (IsTournamentJob count)
 
 pub record IsLab (lab : LabData) : Type 0 where
   pub entries : AreEntries lab.entries

@@ -6,13 +6,15 @@ use Rattle.refusals.specs.declared.refusal.Refusal.{Refusal}
 use Rattle.refusals.specs.declared.refusal.Refusal.TheVariants.{NoJob, TooManyTurns, TooMuchWork, NotBuilt}
 use Rattle.lab_file.specs.declared.command.Command.{Command}
 use Rattle.lab_file.specs.declared.command.Command.TheVariants.{Match, Tournament}
+use Rattle.lab_file.specs.declared.limits.Job.{Job}
+use Rattle.lab_file.specs.declared.limits.Job.TheVariants as jobs
 use Rattle.lab_file.specs.declared.lab.Entry.{Entry}
-use Rattle.lab_file.specs.declared.jobs.MatchJob.{MatchJob}
-use Rattle.lab_file.specs.declared.tournament.TournamentJob.{TournamentJob}
+use Rattle.job_tables.specs.declared.jobs.MatchJob.{MatchJob}
+use Rattle.job_tables.specs.declared.tournament.TournamentJob.{TournamentJob}
 use Rattle.lab_file.specs.Lab.{LabData, entry_at}
 use Rattle.lab_file.specs.Rows.{entry_rows}
 use Rattle.lab_file.specs.Sure.{entry_is_sure}
-use Rattle.lab_file.specs.Tournament.{tournament_pairs}
+use Rattle.job_tables.specs.Tournament.{tournament_pairs}
 
 -- the most turns of a match that is sure, and of any other
 abbrev pub most_turns : Bool → ℕ
@@ -71,6 +73,20 @@ abbrev pub limits_of : List PlugNote → Command → LabData → Result (Unit {0
 limits_of notes Match lab = job_limits (match_limits notes lab.entries) lab.jobs.match_job
 limits_of notes Tournament lab = job_limits (tournament_limits notes lab.entries) lab.jobs.tournament_job
 limits_of notes _ lab = Err NotBuilt
+
+-- the command of a job, and that the lab has it: a new job adds one equation each
+abbrev pub command_of : Job → Command
+command_of (jobs.Match job) = Match
+command_of (jobs.Tournament job) = Tournament
+
+abbrev pub HasJob : LabData → Job → Type 0
+HasJob lab (jobs.Match job) = lab.jobs.match_job ≡ Some job.now
+HasJob lab (jobs.Tournament job) = lab.jobs.tournament_job ≡ Some job.now
+
+-- the lab's job of a command
+pub record IsJobOf (command : Command) (lab : LabData) (job : Job) : Type 0 where
+  pub asked : command_of job ≡ command
+  pub has : HasJob lab job
 
 -- the law of tournaments: where one keeps the limits, each of its matches does
 abbrev pub MatchesAreKept : Type 0

@@ -1,8 +1,8 @@
 //! Laws, proved once: a caller has one by calling its function, which does nothing.
 ghost use Rattle.lab_file.specs.Limits.{MatchesAreKept};
 ghost use Rattle.lab_file.specs.Notes.{LabsAreNoted, NotesTell};
-ghost use Rattle.lab_file.specs.Tournament.{TournamentsAscend};
 
+pub use job_tables::laws::tournaments_ascend;
 use player_core::laws::sure_is_tested;
 
 /// What the notes of a bench tell of the automata that sheets play on it.
@@ -15,11 +15,6 @@ pub fn notes_tell()
 /// Each plug of a lab that is read over notes has its note.
 pub fn labs_are_noted()
     ensures { LabsAreNoted }
-{}
-
-/// The matches of a tournament ascend, and are each pair that is played.
-pub fn tournaments_ascend()
-    ensures { TournamentsAscend }
 {}
 
 /// A tournament that keeps the limits has no match that alone doesn't.

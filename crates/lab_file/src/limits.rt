@@ -1,11 +1,10 @@
-//! Tests the limits of a command's job.
-ghost use Rattle.std.specs.Prelude.{◌≡◌, ◌<◌, ◌≤◌, ◌*◌, ◌^◌, length, sum_by};
+//! The job of a command, and its limits.
+ghost use Rattle.std.specs.Prelude.{◌≡◌, ◌<◌, ◌≤◌, ◌*◌, ◌^◌, length, sum_by, Ok, Err, IfOk, IfErr, OnOk};
 ghost use Rattle.std.specs.List.{list_any};
-ghost use Rattle.lab_file.specs.Lab.{IsMatchJob};
-ghost use Rattle.lab_file.specs.Limits.{most_turns, work_of, limits_by, pair_is_sure, match_limits, is_too_long, pair_work, tournament_limits, limits_of};
-ghost use Rattle.lab_file.specs.Tournament.{tournament_pairs};
+ghost use Rattle.job_tables.specs.Jobs.{IsMatchJob};
+ghost use Rattle.lab_file.specs.Limits.{most_turns, work_of, limits_by, pair_is_sure, match_limits, is_too_long, pair_work, tournament_limits, limits_of, IsJobOf};
+ghost use Rattle.job_tables.specs.Tournament.{tournament_pairs};
 
-use crate::pairs::played_at;
 use crate::rows::entry_rows;
 use crate::sure::entry_is_sure;
 use crate::{Command, Entries, Lab, MatchJob, TournamentJob};
@@ -107,7 +106,7 @@ fn has_long_match(entries: &Entries, notes: &Vec<PlugNote>, job: &TournamentJob)
     let count = entries.len() as u32;
     let mut long = false;
     for field in 0..count as u64 * count as u64 {
-        if let Some(pair) = played_at(job, count, field) {
+        if let Some(pair) = job.played_at(count, field) {
             long = long || is_too_long(entries, notes, job.turns, pair);
         }
     }
@@ -124,7 +123,7 @@ fn tournament_work(entries: &Entries, notes: &Vec<PlugNote>, job: &TournamentJob
     let count = entries.len() as u32;
     let mut work: u128 = 0;
     for field in 0..count as u64 * count as u64 {
-        if let Some(pair) = played_at(job, count, field) {
+        if let Some(pair) = job.played_at(count, field) {
             work += pair_work(entries, notes, job.turns, pair);
         }
     }
@@ -149,8 +148,15 @@ fn tournament_limits(
     Ok(())
 }
 
+/// The job of a command, in the lab that has it.
+#[derive(Clone, Copy)]
+pub enum Job<'a> {
+    Match(&'a MatchJob),
+    Tournament(&'a TournamentJob),
+}
+
 impl Lab {
-    /// Whether the lab has the job of a command, and the job keeps the limits. The notes are of the
+    /// The job of a command, where the lab has it and it keeps the limits. The notes are of the
     /// plugs that the bench has. Takes no memory.
     ///
     /// # Errors
@@ -159,19 +165,40 @@ impl Lab {
     /// over 10^12 turns, or any other over 10,000. Then `TooMuchWork` where the rows of the two
     /// entries' automata and the turns, multiplied, are over 30,000,000: for a match that isn't sure,
     /// and in a tournament for all such matches added up. `NotBuilt` for other commands.
-    pub fn limits(&self, command: Command, notes: &Vec<PlugNote>) -> Result<(), Refusal>
-        ensures { result ≡ limits_of notes.now.items command self.now }
+    pub fn job(&self, command: Command, notes: &Vec<PlugNote>) -> Result<Job<'_>, Refusal>
+        ensures job { IfOk result (IsJobOf command self.now) }
+        ensures kept { OnOk result (limits_of notes.now.items command self.now ≡ Ok tt) }
+        ensures refused { IfErr result (λ refusal. limits_of notes.now.items command self.now ≡ Err refusal) }
     {
         match command {
             Command::Match => match &self.jobs.match_job {
-                Some(job) => match_limits(&self.entries, notes, job),
+                Some(job) => {
+                    match_limits(&self.entries, notes, job)?;
+                    Ok(Job::Match(job))
+                }
                 None => Err(Refusal::NoJob),
             },
             Command::Tournament => match &self.jobs.tournament_job {
-                Some(job) => tournament_limits(&self.entries, notes, job),
+                Some(job) => {
+                    tournament_limits(&self.entries, notes, job)?;
+                    Ok(Job::Tournament(job))
+                }
                 None => Err(Refusal::NoJob),
             },
             _ => Err(Refusal::NotBuilt),
         }
+    }
+
+    /// Whether the lab has the job of a command, and the job keeps the limits. The notes are of the
+    /// plugs that the bench has. Takes no memory.
+    ///
+    /// # Errors
+    ///
+    /// The refusals of `job`.
+    pub fn limits(&self, command: Command, notes: &Vec<PlugNote>) -> Result<(), Refusal>
+        ensures { result ≡ limits_of notes.now.items command self.now }
+    {
+        self.job(command, notes)?;
+        Ok(())
     }
 }

@@ -1,7 +1,7 @@
 //! Places of keys.
 ghost use Rattle.std.specs.Prelude.{◌≡◌};
 ghost use Rattle.strategy_file.specs.SheetOf.{at};
-ghost use Rattle.lab_file.specs.LabOf.{top};
+ghost use Rattle.job_tables.specs.JobsOf.{top};
 
 use refusals::{KeyName, Place, TableName};
 
@@ -23,17 +23,6 @@ pub fn in_entry(entry: u32, key: KeyName) -> Place
     Place {
         table: TableName::Entry,
         entry,
-        key,
-    }
-}
-
-/// A key of the table of a job.
-pub fn in_job(table: TableName, key: KeyName) -> Place
-    ensures { result ≡ record { table = table; entry = 0; key = key } }
-{
-    Place {
-        table,
-        entry: 0,
         key,
     }
 }

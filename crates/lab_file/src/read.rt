@@ -5,10 +5,10 @@ ghost use Rattle.refusals.specs.Refusing.{Gives};
 ghost use Rattle.lab_file.specs.LabOf.{version_at, lab_in, lab_of};
 
 use crate::Lab;
-use crate::entries::entries_at;
-use crate::jobs::jobs_of;
+use crate::entries::{entries_at, names_of};
 use crate::places::top;
 use game_file::read_game;
+use job_tables::jobs_of;
 use lab_keys::value_at;
 use player_core::PlugNote;
 use refusals::{FileError, FileRole, KeyName, Refusal};
@@ -38,7 +38,8 @@ fn lab_in(alloc: Global, tree: &Table, notes: &Vec<PlugNote>) -> Result<Lab, Fil
     let version = version_at(tree)?;
     let (game, offset, noise) = read_game(tree, version)?;
     let entries = entries_at(alloc, tree, notes, noise)?;
-    let jobs = jobs_of(alloc, &entries, tree)?;
+    let names = names_of(alloc, &entries)?;
+    let jobs = jobs_of(alloc, names.as_slice(), tree)?;
     Ok(Lab {
         version,
         offset,
@@ -56,7 +57,7 @@ fn lab_in(alloc: Global, tree: &Table, notes: &Vec<PlugNote>) -> Result<Lab, Fil
 ///
 /// The first refusal, in this order: `TooLong(Lab)` over 1 MiB (1,048,576 bytes); `Syntax` where the
 /// bytes are no TOML document; the version, the game and the noise; the entries one after the other;
-/// the jobs. And `NoMemory`, which may come in place of any of these but `TooLong`.
+/// the jobs. And `NoMemory`, which may come whatever the bytes are.
 #[tactic(auto, using(crate::proofs::Readings::too_long))]
 pub fn read_lab(alloc: Global, bytes: &[u8], notes: &Vec<PlugNote>) -> Result<Lab, FileError>
     ensures { Gives (λ lab. lab) result (lab_of notes.now.items bytes.now) }

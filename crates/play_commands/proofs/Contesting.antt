@@ -13,13 +13,15 @@ use Rattle.sheet_rules.specs.declared.contestant.Contestant.{Contestant}
 use Rattle.sheet_rules.specs.Entrants.{Entrant, entrant_at, entrant_of, entrants_of, no_entrant}
 use Rattle.round_robin.specs.Contest.{Strategy, IsPair, ArePairs, AreFewTurns, IsShort, entrant_strategies, no_strategy, strategy_at, strategy_of_entrant}
 use Rattle.round_robin.specs.Entries.{AreEntries as AreContesting, AreRightEntries, AreRightLines, IsEntry, totals_by_rule}
-use Rattle.lab_file.specs.declared.tournament.TournamentJob.{TournamentJob}
+use Rattle.job_tables.specs.declared.tournament.TournamentJob.{TournamentJob}
 use Rattle.lab_file.specs.declared.lab.Entry.{Entry}
-use Rattle.lab_file.specs.Lab.{LabData, IsLab, IsTournamentJob, NamesDiffer, entry_at, no_entry}
+use Rattle.lab_file.specs.Lab.{LabData, IsLab, NamesDiffer, entry_at, no_entry}
+use Rattle.job_tables.specs.Jobs.{IsTournamentJob}
 use Rattle.lab_file.specs.Limits.{MatchesAreKept, tournament_limits}
 use Rattle.lab_file.specs.Notes.{AreNoted, NotesTell}
-use Rattle.lab_file.specs.Tournament.{TournamentsAscend, tournament_pairs}
-use Rattle.play_commands.specs.Contestants.{IsContestantOf, AreFirst, names_of}
+use Rattle.job_tables.specs.Tournament.{TournamentsAscend, tournament_pairs}
+use Rattle.play_commands.specs.Contestants.{IsContestantOf, AreFirst}
+use Rattle.lab_file.specs.Lab.{names_of}
 use Rattle.play_commands.specs.Entrants.{IsEntrant}
 use Rattle.play_commands.specs.RightTournament.{AreEntrants}
 use Rattle.play_commands.proofs.Entries.{is_entry, is_short}

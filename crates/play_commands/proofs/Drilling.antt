@@ -15,7 +15,7 @@ use Rattle.sheet_rules.specs.Entrants.{Entrant, IsSurePair, entrant_at, no_entra
 use Rattle.round_robin.specs.Contest.{IsPair, ArePairs, AreFewTurns, IsShort, Strategy, entrant_strategies, no_strategy, strategy_at, strategy_of_entrant}
 use Rattle.round_robin.specs.Asked.{Turns, AreAsked, AtMostTurns, most_for}
 use Rattle.round_robin.specs.Entries.{AreEntries, IsEntry}
-use Rattle.lab_file.specs.Tournament.{TournamentsAscend, tournament_pairs}
+use Rattle.job_tables.specs.Tournament.{TournamentsAscend, tournament_pairs}
 use Rattle.play_commands.specs.Machines.{AreMachines, drill_job, drill_pairs, machine_strategies, still}
 use Rattle.play_commands.proofs.Contesting.{are_pairs}
 

@@ -15,7 +15,7 @@ use Rattle.result_lines.specs.declared.ranking.Rank.TheVariants.{At}
 use Rattle.result_lines.specs.Ranks.{greater_among, others, rank_of, span_at}
 use Rattle.result_lines.specs.Totals.{entry_of, entries_of, total_of, totals_of}
 use Rattle.result_lines.specs.declared.tables.Totals.{Totals}
-use Rattle.lab_file.specs.Tournament.{TournamentsAscend, tournament_pairs}
+use Rattle.job_tables.specs.Tournament.{TournamentsAscend, tournament_pairs}
 use Rattle.sheet_rules.specs.Entrants.{Entrant, entrant_at}
 use Rattle.round_robin.specs.Entries.{AreRightEntries, AreRightLines, totals_by_rule}
 use Rattle.round_robin.specs.Laws.{IsInRange}

@@ -12,7 +12,7 @@ use Rattle.lab_report.specs.Names.{name_at}
 use Rattle.lab_report.specs.Text.{report_text}
 use Rattle.lab_report.specs.Valid.{IsValid}
 use Rattle.report_making.specs.Made.{names_of_pair, match_report_of}
-use Rattle.lab_file.specs.declared.jobs.MatchJob.{MatchJob}
+use Rattle.job_tables.specs.declared.jobs.MatchJob.{MatchJob}
 use Rattle.lab_file.specs.Lab.{LabData, entry_at}
 use Rattle.sheet_rules.specs.Entrants.{Entrant}
 use Rattle.sheet_rules.specs.RightLine.{IsRightLine, IsRightScore}

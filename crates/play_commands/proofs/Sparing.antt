@@ -7,10 +7,10 @@ use Rattle.sheet_rules.specs.Entrants.{Entrant, entrants_of}
 use Rattle.round_robin.specs.Asked.{AtMostTurns, bench_turns, most_for}
 use Rattle.round_robin.specs.Entries.{EntriesAtMostOn}
 use Rattle.drill.specs.Drill.{drill_sheets}
-use Rattle.lab_file.specs.declared.jobs.MatchJob.{MatchJob}
-use Rattle.lab_file.specs.declared.tournament.TournamentJob.{TournamentJob}
+use Rattle.job_tables.specs.declared.jobs.MatchJob.{MatchJob}
+use Rattle.job_tables.specs.declared.tournament.TournamentJob.{TournamentJob}
 use Rattle.lab_file.specs.Lab.{LabData}
-use Rattle.lab_file.specs.Tournament.{tournament_pairs}
+use Rattle.job_tables.specs.Tournament.{tournament_pairs}
 use Rattle.play_commands.specs.Machines.{drill_pairs, machine_strategies}
 use Rattle.play_commands.specs.MayAsk.{MayAskBetween, MayAskDrill, MayAskMatch, MayAskTournament, UpTo}
 use Rattle.play_commands.specs.RightTournament.{AreEntrants}

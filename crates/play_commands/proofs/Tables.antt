@@ -19,10 +19,11 @@ use Rattle.lab_report.specs.Text.{report_text, shown_match}
 use Rattle.lab_report.specs.Valid.{IsValid}
 use Rattle.report_making.specs.Made.{ShowsNames, moved_match, moved_matches, names_in_order, places_in, tournament_report_of}
 use Rattle.lab_file.specs.declared.lab.Entry.{Entry}
-use Rattle.lab_file.specs.declared.tournament.TournamentJob.{TournamentJob}
+use Rattle.job_tables.specs.declared.tournament.TournamentJob.{TournamentJob}
 use Rattle.lab_file.specs.Lab.{LabData, entry_at, no_entry}
-use Rattle.lab_file.specs.Tournament.{tournament_pairs}
-use Rattle.play_commands.specs.Contestants.{AreFirst, names_of}
+use Rattle.job_tables.specs.Tournament.{tournament_pairs}
+use Rattle.play_commands.specs.Contestants.{AreFirst}
+use Rattle.lab_file.specs.Lab.{names_of}
 use Rattle.play_commands.specs.RightTournament.{AreEntrants, IsRightPair, IsRightTournament, IsAskedTournament}
 use Rattle.play_commands.proofs.Contesting.{are_entrants}
 use Rattle.play_commands.proofs.Reports.{placed}

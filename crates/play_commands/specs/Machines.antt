@@ -14,8 +14,8 @@ use Rattle.result_lines.specs.declared.tables.EntryLine.{EntryLine}
 use Rattle.round_robin.specs.Contest.{Strategy, entrant_strategies}
 use Rattle.round_robin.specs.Truth.{nothing, plus, true_totals, true_rank}
 use Rattle.lab_report.specs.Valid.{drill_game}
-use Rattle.lab_file.specs.declared.tournament.TournamentJob.{TournamentJob}
-use Rattle.lab_file.specs.Tournament.{tournament_pairs}
+use Rattle.job_tables.specs.declared.tournament.TournamentJob.{TournamentJob}
+use Rattle.job_tables.specs.Tournament.{tournament_pairs}
 
 -- ---- what is played
 

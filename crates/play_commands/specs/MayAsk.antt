@@ -5,10 +5,10 @@ use Rattle.player_core.specs.Sheet.{SheetData}
 use Rattle.player_core.specs.State.{BenchState, players_of}
 use Rattle.round_robin.specs.Asked.{AtMostTurns, bench_turns, most_advances, most_for}
 use Rattle.drill.specs.Drill.{drill_sheets}
-use Rattle.lab_file.specs.declared.jobs.MatchJob.{MatchJob}
-use Rattle.lab_file.specs.declared.tournament.TournamentJob.{TournamentJob}
+use Rattle.job_tables.specs.declared.jobs.MatchJob.{MatchJob}
+use Rattle.job_tables.specs.declared.tournament.TournamentJob.{TournamentJob}
 use Rattle.lab_file.specs.Lab.{LabData}
-use Rattle.lab_file.specs.Tournament.{tournament_pairs}
+use Rattle.job_tables.specs.Tournament.{tournament_pairs}
 use Rattle.sheet_rules.specs.Entrants.{Entrant, automaton_of_entrant}
 use Rattle.round_robin.specs.Contest.{entrant_strategies}
 use Rattle.play_commands.specs.Entrants.{IsEntrant}

@@ -7,7 +7,7 @@ use Rattle.lab_report.specs.declared.report.Report.{Report}
 use Rattle.lab_report.specs.Names.{name_at}
 use Rattle.lab_report.specs.Text.{report_text}
 use Rattle.lab_report.specs.Valid.{IsValid}
-use Rattle.lab_file.specs.declared.jobs.MatchJob.{MatchJob}
+use Rattle.job_tables.specs.declared.jobs.MatchJob.{MatchJob}
 use Rattle.lab_file.specs.Lab.{LabData, entry_at}
 use Rattle.play_commands.specs.RightLine.{IsOfLab, IsRightBetween, IsAskedBetween}
 

@@ -15,10 +15,10 @@ use Rattle.lab_report.specs.declared.report.Report.{Report}
 use Rattle.lab_report.specs.Names.{name_at}
 use Rattle.lab_report.specs.Text.{report_text}
 use Rattle.lab_report.specs.Valid.{IsValid}
-use Rattle.lab_file.specs.declared.tournament.TournamentJob.{TournamentJob}
+use Rattle.job_tables.specs.declared.tournament.TournamentJob.{TournamentJob}
 use Rattle.lab_file.specs.Lab.{LabData, entry_at}
-use Rattle.lab_file.specs.Tournament.{tournament_pairs}
-use Rattle.play_commands.specs.Contestants.{names_of}
+use Rattle.job_tables.specs.Tournament.{tournament_pairs}
+use Rattle.lab_file.specs.Lab.{names_of}
 use Rattle.play_commands.specs.Entrants.{IsEntrant, offset_of}
 use Rattle.play_commands.specs.RightLine.{IsOfLab}
 

@@ -1,5 +1,5 @@
 use Rattle.std.proofs.Common.{◌≡◌, ◌++◌, drop}
-use Rattle.play_commands.specs.Contestants.{names_of}
+use Rattle.lab_file.specs.Lab.{names_of}
 use Rattle.play_commands.proofs.tournament.names.Given as goal
 
 abbrev pub invariant-loop-entry : goal.invariant-loop-entry

@@ -1,6 +1,6 @@
 use Rattle.std.proofs.Common.{length, ap, inr, ◌∙◌}
 use Rattle.lab_file.specs.Lab.{LabData}
-use Rattle.lab_file.specs.Tournament.{tournament_pairs}
+use Rattle.job_tables.specs.Tournament.{tournament_pairs}
 use Rattle.sheet_rules.specs.Entrants.{entrants_of}
 use Rattle.play_commands.proofs.Contesting.{are_entrants, are_entries, are_pairs_of, are_few_turns, entries_of_lab, few_turns_of, lines_of}
 use Rattle.play_commands.proofs.TableLines.{results_shown}

@@ -3,13 +3,13 @@ ghost use Rattle.std.specs.Prelude.{◌≡◌, ◌≢◌, ◌<◌, ◌≤◌, �
 ghost use Rattle.std.specs.List.{list_any};
 ghost use Rattle.toml.specs.View.{view, table_view, array_view};
 ghost use Rattle.refusals.specs.Refusing.{Gives};
-ghost use Rattle.lab_file.specs.Lab.{AreEdges, IsTournamentJob};
-ghost use Rattle.lab_file.specs.LabOf.{is_doubled, edge_of, edges_from, edges_if, edges_at, tournament_of, tournament_if, tournament_at};
-ghost use Rattle.lab_file.specs.Tournament.{joins};
+ghost use Rattle.job_tables.specs.Jobs.{AreEdges, IsTournamentJob};
+ghost use Rattle.job_tables.specs.JobsOf.{is_doubled, edge_of, edges_from, edges_if, edges_at, tournament_of, tournament_if, tournament_at};
+ghost use Rattle.job_tables.specs.Tournament.{joins};
 
-use crate::Entries;
-use crate::jobs::{MOST_TURNS, place_named};
-use crate::places::{in_job, top};
+use crate::jobs::MOST_TURNS;
+use crate::places::{key_of, place_named};
+use history_model::Name;
 use lab_keys::{optional_pairs_at, optional_table_at, pair_of, truth_at, whole_at};
 use refusals::{FileError, KeyName, Refusal, TableName};
 use std::alloc::Global;
@@ -43,7 +43,7 @@ pub struct Edges {
 
 impl Model for Edges {
     ghost use Rattle.std.specs.Prelude.{List};
-    ghost use Rattle.lab_file.specs.declared.tournament.Edge.{Edge};
+    ghost use Rattle.job_tables.specs.declared.tournament.Edge.{Edge};
 
     ghost Value = { List Edge };
 
@@ -85,65 +85,65 @@ fn is_doubled(before: &[Edge], left: u32, right: u32) -> bool
 }
 
 // The edge behind these.
-#[tactic(auto, unfolding(crate::specs::LabOf::edge_of), using(crate::proofs::Joining::few_edges))]
-fn edge_of(entries: &Entries, before: &[Edge], value: &Value) -> Result<Edge, Refusal>
-    requires few { length entries.now ≤ 64 }
-    requires sound { AreEdges (length entries.now) before.now }
-    ensures edge { result ≡ edge_of entries.now before.now (view value.now) }
-    ensures sound { IfOk result (λ edge. AreEdges (length entries.now) (before.now ++ edge ∷ [])) }
+#[tactic(auto, unfolding(crate::specs::JobsOf::edge_of), using(crate::proofs::Joining::few_edges))]
+fn edge_of(names: &[Name], before: &[Edge], value: &Value) -> Result<Edge, Refusal>
+    requires few { length names.now ≤ 64 }
+    requires sound { AreEdges (length names.now) before.now }
+    ensures edge { result ≡ edge_of names.now before.now (view value.now) }
+    ensures sound { IfOk result (λ edge. AreEdges (length names.now) (before.now ++ edge ∷ [])) }
 {
-    let place = in_job(TableName::Tournament, KeyName::Edges);
+    let place = key_of(TableName::Tournament, KeyName::Edges);
     let (left_name, right_name) = pair_of(value, place)?;
-    let left = place_named(entries, place, left_name)?;
-    let right = place_named(entries, place, right_name)?;
+    let left = place_named(names, place, left_name)?;
+    let right = place_named(names, place, right_name)?;
     if is_doubled(before, left, right) {
         return Err(Refusal::DoubledEdge(before.len() as u32 + 1));
     }
     Ok(Edge { left, right })
 }
 
-fn edges_from(alloc: Global, entries: &Entries, array: &Array) -> Result<Edges, FileError>
-    requires { length entries.now ≤ 64 }
-    ensures edges { Gives (λ edges. edges) result (edges_from entries.now [] (array_view array.now)) }
-    ensures sound { IfOk result (AreEdges (length entries.now)) }
+fn edges_from(alloc: Global, names: &[Name], array: &Array) -> Result<Edges, FileError>
+    requires { length names.now ≤ 64 }
+    ensures edges { Gives (λ edges. edges) result (edges_from names.now [] (array_view array.now)) }
+    ensures sound { IfOk result (AreEdges (length names.now)) }
 {
     let mut before: Vec<Edge> = Vec::new(alloc);
     for value in array {
-        let edge = edge_of(entries, before.as_slice(), value)?;
+        let edge = edge_of(names, before.as_slice(), value)?;
         before.push(edge)?;
     }
     Ok(Edges { items: before })
 }
 
-#[tactic(auto, unfolding(crate::specs::LabOf::edges_at))]
-fn edges_at(alloc: Global, entries: &Entries, job: &Table) -> Result<Option<Edges>, FileError>
-    requires { length entries.now ≤ 64 }
-    ensures edges { Gives (λ edges. edges) result (edges_at entries.now (table_view job.now)) }
-    ensures sound { IfOk result (λ edges. IfSome edges (AreEdges (length entries.now))) }
+#[tactic(auto, unfolding(crate::specs::JobsOf::edges_at))]
+fn edges_at(alloc: Global, names: &[Name], job: &Table) -> Result<Option<Edges>, FileError>
+    requires { length names.now ≤ 64 }
+    ensures edges { Gives (λ edges. edges) result (edges_at names.now (table_view job.now)) }
+    ensures sound { IfOk result (λ edges. IfSome edges (AreEdges (length names.now))) }
 {
-    match optional_pairs_at(job, in_job(TableName::Tournament, KeyName::Edges))? {
+    match optional_pairs_at(job, key_of(TableName::Tournament, KeyName::Edges))? {
         Some(pairs) => {
-            let edges = edges_from(alloc, entries, pairs)?;
+            let edges = edges_from(alloc, names, pairs)?;
             Ok(Some(edges))
         }
         None => Ok(None),
     }
 }
 
-#[tactic(auto, unfolding(crate::specs::LabOf::tournament_of))]
-fn tournament_of(alloc: Global, entries: &Entries, job: &Table) -> Result<TournamentJob, FileError>
-    requires { length entries.now ≤ 64 }
-    ensures job { Gives (λ job. job) result (tournament_of entries.now (table_view job.now)) }
-    ensures sound { IfOk result (IsTournamentJob (length entries.now)) }
+#[tactic(auto, unfolding(crate::specs::JobsOf::tournament_of))]
+fn tournament_of(alloc: Global, names: &[Name], job: &Table) -> Result<TournamentJob, FileError>
+    requires { length names.now ≤ 64 }
+    ensures job { Gives (λ job. job) result (tournament_of names.now (table_view job.now)) }
+    ensures sound { IfOk result (IsTournamentJob (length names.now)) }
 {
     let turns = whole_at(
         job,
-        in_job(TableName::Tournament, KeyName::Turns),
+        key_of(TableName::Tournament, KeyName::Turns),
         1,
         MOST_TURNS,
     )?;
-    let self_play = truth_at(job, in_job(TableName::Tournament, KeyName::SelfPlay), false)?;
-    let edges = edges_at(alloc, entries, job)?;
+    let self_play = truth_at(job, key_of(TableName::Tournament, KeyName::SelfPlay), false)?;
+    let edges = edges_at(alloc, names, job)?;
     Ok(TournamentJob {
         turns,
         self_play,
@@ -151,25 +151,25 @@ fn tournament_of(alloc: Global, entries: &Entries, job: &Table) -> Result<Tourna
     })
 }
 
-/// The tournament of a document with these entries, where its table stands.
+/// The tournament of a document whose entries have these names, where its table stands.
 ///
 /// # Errors
 ///
 /// The first wrong key, in the order turns, self-play, edges. Of edges the types are tested first,
 /// then the lengths of all pairs, then the names edge by edge. And `NoMemory`.
-#[tactic(auto, unfolding(crate::specs::LabOf::tournament_at))]
+#[tactic(auto, unfolding(crate::specs::JobsOf::tournament_at))]
 pub fn tournament_at(
     alloc: Global,
-    entries: &Entries,
+    names: &[Name],
     tree: &Table,
 ) -> Result<Option<TournamentJob>, FileError>
-    requires { length entries.now ≤ 64 }
-    ensures job { Gives (λ job. job) result (tournament_at entries.now (table_view tree.now)) }
-    ensures sound { IfOk result (λ job. IfSome job (IsTournamentJob (length entries.now))) }
+    requires { length names.now ≤ 64 }
+    ensures job { Gives (λ job. job) result (tournament_at names.now (table_view tree.now)) }
+    ensures sound { IfOk result (λ job. IfSome job (IsTournamentJob (length names.now))) }
 {
-    match optional_table_at(tree, top(KeyName::Tournament))? {
+    match optional_table_at(tree, key_of(TableName::Top, KeyName::Tournament))? {
         Some(job) => {
-            let found = tournament_of(alloc, entries, job)?;
+            let found = tournament_of(alloc, names, job)?;
             Ok(Some(found))
         }
         None => Ok(None),

@@ -1,5 +1,5 @@
 -- The pairs of a tournament, field by field of the square of all pairs.
-use Rattle.std.proofs.Common.{◌≡◌, ◌≢◌, append-nil, ℕ, zero, suc, ◌+◌, ◌*◌, ◌/◌, ◌%◌, ◌<◌, ◌≤◌, ◌==◌, ◌&&◌, nat_lt, Bool, true, false, List, [], ◌∷◌, ◌++◌, length, get_or, map, cond, Some, None, Option, if◌then◌else◌, refl, sym, ◌∙◌, ap, inl, inr, eqb, arith}
+use Rattle.std.proofs.Common.{◌≡◌, ◌≢◌, append-nil, ℕ, zero, suc, ◌+◌, ◌*◌, ◌/◌, ◌%◌, ◌<◌, ◌≤◌, ◌==◌, ◌&&◌, nat_lt, Bool, true, false, List, [], ◌∷◌, ◌++◌, length, get_or, map, cond, if◌then◌else◌, refl, sym, ◌∙◌, ap, inl, inr, eqb, arith}
 use Rattle.std.proofs.Math.Nat.{mul-le-mul_right}
 use Rattle.std.proofs.lemmas.Bool.{cases_Bool, cases_order, and_parts, eqb-true, ltb-true, ne_eqb}
 use Rattle.std.proofs.lemmas.List.{get_or-map, length-map}
@@ -10,41 +10,26 @@ use Rattle.std.proofs.lemmas.List.Kept.{AllPairs-filter}
 use Rattle.std.proofs.lemmas.Map.Keys.{IsDistinct-from_apart}
 use Rattle.std.proofs.lemmas.Map.Steps.{length-le_from_distinct_below}
 use Rattle.std.proofs.lemmas.Nat.{div-add-mod', div-mul-add, mod-mul-add, mul-add-lt, mod_below}
-use Rattle.std.specs.List.{range_with_len, filter, list_any, All, AllPairs, Contains}
-use Rattle.lab_file.specs.declared.tournament.TournamentJob.{TournamentJob}
-use Rattle.lab_file.specs.Tournament.{is_played, are_joined, pair_at, all_pairs, tournament_pairs, AreMatches, ComesBefore, TournamentsAscend}
-
--- the matches in the first fields
-abbrev pub pairs_before : TournamentJob → ℕ → ℕ → List (ℕ × ℕ)
-pairs_before job count field = filter (is_played job) (map (pair_at count) (range_with_len 0 field))
-
--- what is played at a field
-abbrev pub match_at : TournamentJob → ℕ → ℕ → Option (ℕ × ℕ)
-match_at job count field = if is_played job (pair_at count field) then Some (pair_at count field) else None
+use Rattle.std.specs.List.{filter, list_any, All, AllPairs, Contains}
+use Rattle.job_tables.specs.declared.tournament.TournamentJob.{TournamentJob}
+use Rattle.job_tables.specs.Tournament.{is_played, are_joined, pair_at, all_pairs, played_before, tournament_pairs, AreMatches, ComesBefore, TournamentsAscend}
 
 next : (job : TournamentJob) (count field : ℕ)
-    → pairs_before job count (field + 1) ≡ pairs_before job count field ++ cond (is_played job (pair_at count field)) (pair_at count field ∷ []) []
+    → played_before job count (field + 1) ≡ played_before job count field ++ cond (is_played job (pair_at count field)) (pair_at count field ∷ []) []
 next job count field = filter_of_map_range_with_len_more (is_played job) (pair_at count) 0 field field (omega arith)
 
-shown : (on : Bool) (here pair : ℕ × ℕ) → Some pair ≡ (if on then Some here else None) → cond on (here ∷ []) [] ≡ pair ∷ []
-shown true here pair at = cc
-shown false here pair at = absurd (cc)
-
-hidden : (on : Bool) (here : ℕ × ℕ) → None ≡ (if on then Some here else None) → cond on (here ∷ []) [] ≡ []
-hidden true here at = absurd (cc)
-hidden false here at = refl
-
 -- one field more, whose pair is a match
-pub field_played : (job : TournamentJob) (count field : ℕ) (pair : ℕ × ℕ) → Some pair ≡ match_at job count field
-    → pairs_before job count (field + 1) ≡ pairs_before job count field ++ pair ∷ []
-field_played job count field pair at =
-    next job count field ∙ ap (λ more. pairs_before job count field ++ more) (shown (is_played job (pair_at count field)) (pair_at count field) pair at)
+pub field_on : (job : TournamentJob) (count field : ℕ) → true ≡ is_played job (pair_at count field)
+    → played_before job count (field + 1) ≡ played_before job count field ++ pair_at count field ∷ []
+field_on job count field is =
+    next job count field ∙ ap (λ b. played_before job count field ++ cond b (pair_at count field ∷ []) []) (sym is)
 
 -- one field more, whose pair isn't
-pub field_passed : (job : TournamentJob) (count field : ℕ) → None ≡ match_at job count field
-    → pairs_before job count (field + 1) ≡ pairs_before job count field
-field_passed job count field at =
-    next job count field ∙ ap (λ more. pairs_before job count field ++ more) (hidden (is_played job (pair_at count field)) (pair_at count field) at) ∙ append-nil (pairs_before job count field)
+pub field_off : (job : TournamentJob) (count field : ℕ) → false ≡ is_played job (pair_at count field)
+    → played_before job count (field + 1) ≡ played_before job count field
+field_off job count field is =
+    next job count field ∙ ap (λ b. played_before job count field ++ cond b (pair_at count field ∷ []) []) (sym is)
+    ∙ append-nil (played_before job count field)
 
 -- without rows there is no field
 some_rows : (count i : ℕ) → i < count * count → 0 < count
@@ -186,6 +171,6 @@ matches_ascend job count =
     }
 
 -- all fields
-pub all_matches : (job : TournamentJob) (count field : ℕ) (pairs : List (ℕ × ℕ)) → pairs ≡ pairs_before job count field → field ≡ count * count
+pub all_matches : (job : TournamentJob) (count field : ℕ) (pairs : List (ℕ × ℕ)) → pairs ≡ played_before job count field → field ≡ count * count
     → AreMatches job count pairs
 all_matches job count field pairs is all = rw (is, all) (matches_ascend job count)

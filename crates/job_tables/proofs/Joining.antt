@@ -10,10 +10,10 @@ use Rattle.std.proofs.lemmas.Map.Steps.{length-le_from_distinct_below}
 use Rattle.std.proofs.lemmas.Nat.{mul-add-lt, same_from_place}
 use Rattle.std.proofs.Math.Nat.{mul-le-mul_left}
 use Rattle.std.specs.List.{list_any}
-use Rattle.lab_file.specs.declared.tournament.Edge.{Edge}
-use Rattle.lab_file.specs.Lab.{AreEdges}
-use Rattle.lab_file.specs.LabOf.{is_doubled}
-use Rattle.lab_file.specs.Tournament.{joins}
+use Rattle.job_tables.specs.declared.tournament.Edge.{Edge}
+use Rattle.job_tables.specs.Jobs.{AreEdges}
+use Rattle.job_tables.specs.JobsOf.{is_doubled}
+use Rattle.job_tables.specs.Tournament.{joins}
 
 -- what passes nowhere fails at each place
 pub none_at : {X : Type 0} (test : X → Bool) (xs : List X) (k : ℕ) (d : X) → list_any test xs ≡ false → k < length xs → test (get_or xs k d) ≡ false

@@ -1,6 +1,6 @@
 //! Who meets whom in a tournament.
-ghost use Rattle.std.specs.Prelude.{◌≡◌, ◌<◌, ◌≤◌, ◌*◌, All, AllPairs, IfOk, IfSome, Some, None, if◌then◌else◌};
-ghost use Rattle.lab_file.specs.Tournament.{are_joined, is_played, pair_at, tournament_pairs, ComesBefore};
+ghost use Rattle.std.specs.Prelude.{◌≡◌, ◌<◌, ◌≤◌, ◌+◌, ◌*◌, All, AllPairs, IfOk, IfSome};
+ghost use Rattle.job_tables.specs.Tournament.{are_joined, is_played, played_at, played_before, with_match, tournament_pairs, ComesBefore};
 
 use crate::tournament::{Edges, TournamentJob, any_joins};
 use history_model::NoMemory;
@@ -25,23 +25,25 @@ fn is_played(job: &TournamentJob, pair: (u32, u32)) -> bool
     pair.0 < pair.1 && are_joined(&job.edges, pair.0, pair.1)
 }
 
-/// The pair at a field of the square of all pairs of so many entries, where it is played.
-pub fn played_at(job: &TournamentJob, count: u32, field: u64) -> Option<(u32, u32)>
-    requires { field < count * count }
-    ensures played { result ≡ (if is_played job.now (pair_at count field) then Some (pair_at count field) else None) }
-    ensures within { IfSome result (λ pair. (pair.0 < count) × (pair.1 < count)) }
-{
-    let left = field / count as u64;
-    let right = field % count as u64;
-    let pair = (left as u32, right as u32);
-    if is_played(job, pair) {
-        Some(pair)
-    } else {
-        None
-    }
-}
-
 impl TournamentJob {
+    /// The match at a field of the square of all pairs of so many entries, where one is played
+    /// there. Field by field these are the matches in ascending order, as `pairs` gives them.
+    pub fn played_at(&self, count: u32, field: u64) -> Option<(u32, u32)>
+        requires { field < count * count }
+        ensures played { result ≡ played_at self.now count field }
+        ensures more { played_before self.now count (field + 1) ≡ with_match (played_before self.now count field) result }
+        ensures within { IfSome result (λ pair. (pair.0 < count) × (pair.1 < count)) }
+    {
+        let left = field / count as u64;
+        let right = field % count as u64;
+        let pair = (left as u32, right as u32);
+        if is_played(self, pair) {
+            Some(pair)
+        } else {
+            None
+        }
+    }
+
     /// The matches of a tournament of so many entries, by the places of the two: of each two that
     /// are joined, the smaller place first, and in self-play of each entry with itself. They
     /// ascend by the left place, then by the right one.
@@ -49,7 +51,6 @@ impl TournamentJob {
     /// # Errors
     ///
     /// Want of memory alone.
-    #[tactic(auto, using(crate::proofs::Pairing::field_played, crate::proofs::Pairing::field_passed))]
     pub fn pairs(&self, alloc: Global, count: u32) -> Result<Vec<(u32, u32)>, NoMemory>
         ensures pairs { IfOk result (λ pairs. pairs.items ≡ tournament_pairs self.now count) }
         ensures ascending { IfOk result (λ pairs. AllPairs ComesBefore pairs.items) }
@@ -57,7 +58,7 @@ impl TournamentJob {
     {
         let mut pairs: Vec<(u32, u32)> = Vec::new(alloc);
         for field in 0..count as u64 * count as u64 {
-            if let Some(pair) = played_at(self, count, field) {
+            if let Some(pair) = self.played_at(count, field) {
                 pairs.push(pair)?;
             }
         }

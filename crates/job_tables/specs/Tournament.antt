@@ -1,8 +1,8 @@
 -- Who meets whom in a tournament. Entries go by their places, counted from 0.
-use Rattle.std.specs.Prelude.{◌≡◌, ℕ, ◌+◌, ◌*◌, ◌/◌, ◌%◌, ◌<◌, ◌≤◌, ◌==◌, ◌&&◌, ◌||◌, ◌⊎◌, nat_lt, Bool, true, List, length, map, filter, All, AllPairs, Contains, Option, Some, None, if◌then◌else◌}
+use Rattle.std.specs.Prelude.{◌≡◌, ℕ, ◌+◌, ◌*◌, ◌/◌, ◌%◌, ◌<◌, ◌≤◌, ◌==◌, ◌&&◌, ◌||◌, ◌⊎◌, nat_lt, Bool, true, List, [], ◌∷◌, ◌++◌, length, map, filter, All, AllPairs, Contains, Option, Some, None, if◌then◌else◌}
 use Rattle.std.specs.List.{list_any, range_with_len}
-use Rattle.lab_file.specs.declared.tournament.Edge.{Edge}
-use Rattle.lab_file.specs.declared.tournament.TournamentJob.{TournamentJob}
+use Rattle.job_tables.specs.declared.tournament.Edge.{Edge}
+use Rattle.job_tables.specs.declared.tournament.TournamentJob.{TournamentJob}
 
 -- the edge joins these two entries, in either order
 abbrev pub joins : ℕ → ℕ → Edge → Bool
@@ -24,6 +24,18 @@ pair_at count field = (field / count, field % count)
 
 abbrev pub all_pairs : ℕ → List (ℕ × ℕ)
 all_pairs count = map (pair_at count) (range_with_len 0 (count * count))
+
+-- what is played at a field of the square of all pairs, and the matches in the first fields
+abbrev pub played_at : TournamentJob → ℕ → ℕ → Option (ℕ × ℕ)
+played_at job count field = if is_played job (pair_at count field) then Some (pair_at count field) else None
+
+abbrev pub played_before : TournamentJob → ℕ → ℕ → List (ℕ × ℕ)
+played_before job count field = filter (is_played job) (map (pair_at count) (range_with_len 0 field))
+
+-- one match more, where there is one
+abbrev pub with_match : List (ℕ × ℕ) → Option (ℕ × ℕ) → List (ℕ × ℕ)
+with_match pairs None = pairs
+with_match pairs (Some pair) = pairs ++ pair ∷ []
 
 -- the matches of a tournament of so many entries
 abbrev pub tournament_pairs : TournamentJob → ℕ → List (ℕ × ℕ)
