@@ -1,8 +1,9 @@
 -- A lab: the game, the entries and the jobs that a lab file stands for.
-use Rattle.std.specs.Prelude.{ℕ, ◌≡◌, ◌≢◌, ◌<◌, ◌≤◌, ◌^◌, false, List, [], length, slice_index_or, All, AllPairs, IfSome}
+use Rattle.std.specs.Prelude.{ℕ, ◌≡◌, ◌≢◌, ◌⊎◌, ◌<◌, ◌≤◌, ◌^◌, false, List, [], length, slice_index_or, All, AllPairs, IfSome}
 use Rattle.history_model.specs.declared.moves.Move.TheVariants.{C}
 use Rattle.history_model.specs.Game.{Payoffs}
 use Rattle.history_model.specs.Noise.{FlipRate, no_noise}
+use Rattle.game_file.specs.GameOf.{IsOffset}
 use Rattle.strategy_file.specs.declared.draft.Draft.TheVariants.{FromFile}
 use Rattle.lab_file.specs.declared.lab.Entry.{Entry}
 use Rattle.lab_file.specs.declared.jobs.Jobs.{Jobs}
@@ -62,6 +63,15 @@ pub record AreJobs (count : ℕ) (jobs : Jobs) : Type 0 where
   pub match_job : IfSome jobs.match_job (IsMatchJob count)
   pub tournament_job : IfSome jobs.tournament_job (IsTournamentJob count)
 
+-- each entry has this noise
+abbrev pub HaveNoise : FlipRate → List Entry → Type 0
+HaveNoise noise entries = All (λ (entry : Entry). entry.noise ≡ noise) entries
+
+-- of version 1 or 2; in version 1 no payoff was raised, and each entry has the lab's noise
 pub record IsLab (lab : LabData) : Type 0 where
+  pub version : (lab.version ≡ 1) ⊎ (lab.version ≡ 2)
+  pub offset : IsOffset lab.game lab.offset
+  pub unraised : lab.version ≡ 1 → lab.offset ≡ 0
+  pub one_noise : lab.version ≡ 1 → HaveNoise lab.noise lab.entries
   pub entries : AreEntries lab.entries
   pub jobs : AreJobs (length lab.entries) lab.jobs
