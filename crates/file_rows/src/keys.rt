@@ -1,7 +1,7 @@
 //! Keys of one table against values worked out by hand.
 use lab_keys::{
-    array_at, optional_pairs_at, optional_table_at, pair_of, table_at, text_at, truth_at, whole_at,
-    wholes_at,
+    array_at, optional_pairs_at, optional_table_at, pair_of, signed_at, table_at, text_at,
+    truth_at, whole_at, wholes_at,
 };
 use lab_ports::{FileError, KeyName, Place, Refusal, TableName};
 use std::test::Fail;
@@ -73,6 +73,18 @@ fn reads_keys(rt: HostRuntime) -> Result<(), Fail> {
         (KeyName::Plug, missing(KeyName::Plug)),
     ] {
         assert_eq!(rt; whole_at(&tree, place(key), 1, 1000), want, "at {key:?}");
+    }
+    for (low, high, want) in [
+        (-1, 0, Ok(-1)),
+        (-9, -1, Ok(-1)),
+        (0, 9, out(KeyName::Own)),
+        (-9, -2, out(KeyName::Own)),
+    ] {
+        assert_eq!(rt;
+            signed_at(&tree, place(KeyName::Own), low, high),
+            want,
+            "from {low}"
+        );
     }
     assert_eq!(rt; text_at(&tree, place(KeyName::Kind)), Ok("plug"));
     assert_eq!(rt;

@@ -2,7 +2,7 @@
 //! lab: `part -> what stands in its place`, and maybe ` and ` a further part, ` => ` the answer. In
 //! the parts `; ` is a line break, and `?` the table of a tournament behind that of the match.
 use crate::told::error_text;
-use history_model::Name;
+use history_model::{Name, Noise};
 use lab_file::{Command, Entry, Lab, TournamentJob, read_lab};
 use player_core::PlugNote;
 use std::alloc::Global;
@@ -61,7 +61,19 @@ const WORDS: [(&str, &str); 4] = [
 
 const CASES: &str = r#"version = 1 -> # => MissingKey Top 0 Version
 version = 1 -> version = "1" => WrongType Top 0 Version
-version = 1 -> version = 2; game = 1 => Version
+version = 1 -> version = 3; game = 1 => Version
+version = 1 -> version = 2; game = { r = 2, s = -1, t = 3, p = 0 } => 2 1 [3, 0, 4, 1] 0/1: &: 0 3 5
+version = 1 -> version = 2; game = { r = -7, s = 999993, t = 0, p = 0 } => 2 7 [0, 1000000, 7, 7] 0/1: &: 0 3 5
+version = 1 -> version = 2; game = { r = -7, s = 999994, t = 0, p = 0 } => OutOfRange Game 0 P
+version = 1 -> version = 2; game = { r = -1000000, s = -1000000, t = -1000000, p = -1000001 } => OutOfRange Game 0 P
+version = 1 -> version = 2; game = { r = 7, s = 8, t = 1000000, p = 9 } => 2 0 [7, 8, 1000000, 9] 0/1: &: 0 3 5
+version = 1 -> version = 2 and plug = "grim" -> plug = "grim"; noise = { e = 9, n = 4 } => 2 0 [3, 0, 5, 1] 0/1: <, wide Lookup [3]/3 [0, 3] [] -, fox Plug []/1 [] [] grim 4/9: 0 3 5
+version = 1 -> version = 2; noise = { e = 8, n = 1 } and plug = "grim" -> plug = "grim"; noise = { e = 1, n = 0 } => 2 0 [3, 0, 5, 1] 1/8: <, wide Lookup [3]/3 [0, 3] [] -, fox Plug []/1 [] [] grim 0/1: 0 3 5
+version = 1 -> version = 2 and plug = "grim" -> plug = "Grim"; noise = 3 => UnknownPlug(4)
+version = 1 -> version = 2 and plug = "grim" -> plug = "grim"; noise = 3 => WrongType Entry 4 Noise
+version = 1 -> version = 2 and plug = "grim" -> plug = "grim"; noise = { n = 5 } => MissingKey Entry 4 E
+version = 1 -> version = 2 and plug = "grim" -> plug = "grim"; noise = { n = 5, e = 9 } => OutOfRange Entry 4 N
+plug = "grim" -> plug = "grim"; noise = { n = 4, e = 9 } => same
 version = 1 -> version = 1; game = 3; noise = 3 => WrongType Top 0 Game
 version = 1 -> version = 1; game = { r = 4, s = 1, t = 1000000, p = 2 } => 1 0 [4, 1, 1000000, 2] 0/1: &: 0 3 5
 version = 1 -> version = 1; noise = { n = 1, e = 10 } => 1 0 [3, 0, 5, 1] 1/10: &: 0 3 5
@@ -167,7 +179,8 @@ fn replaced(alloc: Global, text: &str, words: &[(&str, &str)]) -> Result<String,
     Ok(text)
 }
 
-fn write_entry(text: &mut String, entry: &Entry) -> Result<(), Fail> {
+// An entry in short, with its noise where it isn't that of the lab.
+fn write_entry(text: &mut String, entry: &Entry, noise: Noise) -> Result<(), Fail> {
     match &entry.draft {
         Draft::Ready(sheet) => {
             write!(text, "{} {:?} ", entry.name, sheet.kind)?;
@@ -179,6 +192,9 @@ fn write_entry(text: &mut String, entry: &Entry) -> Result<(), Fail> {
             write!(text, "{} {file} ", entry.name)?;
             write!(text, "{} {:?}", machine.start, machine.opening)?;
         }
+    }
+    if entry.noise != noise {
+        write!(text, " {}/{}", entry.noise.n, entry.noise.e)?;
     }
     Ok(())
 }
@@ -207,7 +223,7 @@ fn write_lab(text: &mut String, lab: &Lab) -> Result<(), Fail> {
     let mut between = ": ";
     for entry in lab.entries.as_slice() {
         text.push_str(between)?;
-        write_entry(text, entry)?;
+        write_entry(text, entry, lab.noise)?;
         between = ", ";
     }
     match lab.jobs.match_job {
@@ -273,7 +289,7 @@ fn attaches_files(rt: HostRuntime) -> Result<(), Fail> {
         let answer = lab.attach(alloc, place, file.as_bytes());
         let mut got = format!(in alloc; "{answer:?}: ")?;
         if let Some(entry) = lab.entries.as_slice().get(place as usize) {
-            write_entry(&mut got, entry)?;
+            write_entry(&mut got, entry, lab.noise)?;
         }
         assert_eq!(rt; got.as_str(), want, "at {line}");
     }

@@ -1,6 +1,6 @@
-//! Reads the game and the noise of a lab file.
+//! Reads the game and the noises of a lab file.
 #![tactic(auto)]
 
 mod game;
 
-pub use game::read_game;
+pub use game::{read_game, read_noise};

@@ -16,10 +16,10 @@ use Rattle.lab_file.specs.LabOf.{entry_of, entries_from}
 from_here : (values : List Value) (i : ℕ) (value : Value) → i < length values → value ≡ get_or values i value → drop i values ≡ value ∷ drop (i + 1) values
 from_here values i value inside is = rw (add-one i, drop-cons values i value) (ap (λ v. v ∷ drop (suc i) values) (sym is))
 
-pub next_entry : (notes : List PlugNote) (noise : FlipRate) (before seen before' : List Entry) (held values : List Value) (i : ℕ) (value : Value) (place : Place) (tree : Members) (entry : Entry)
+pub next_entry : (notes : List PlugNote) (version : ℕ) (noise : FlipRate) (before seen before' : List Entry) (held values : List Value) (i : ℕ) (value : Value) (place : Place) (tree : Members) (entry : Entry)
     → held ≡ values → i < length held → value ≡ get_or held i value → place ≡ top key.Entry → table_of place (view value) ≡ Ok tree
-    → seen ≡ before → entry_of notes noise seen tree ≡ Ok entry → before' ≡ before ++ entry ∷ []
-    → entries_from notes noise before (items_view (drop i values)) ≡ entries_from notes noise before' (items_view (drop (i + 1) values))
-next_entry notes noise before seen before' held values i value place tree entry same inside is here table saw read pushed =
-    ap (λ vs. entries_from notes noise before (items_view vs)) (from_here values i value (rw same at inside) (rw same at is))
-    ∙ rw (rw here at table, ◌>>=◌, rw saw at read, ◌>>=◌) (ap (λ b. entries_from notes noise b (items_view (drop (i + 1) values))) (sym pushed))
+    → seen ≡ before → entry_of notes version noise seen tree ≡ Ok entry → before' ≡ before ++ entry ∷ []
+    → entries_from notes version noise before (items_view (drop i values)) ≡ entries_from notes version noise before' (items_view (drop (i + 1) values))
+next_entry notes version noise before seen before' held values i value place tree entry same inside is here table saw read pushed =
+    ap (λ vs. entries_from notes version noise before (items_view vs)) (from_here values i value (rw same at inside) (rw same at is))
+    ∙ rw (rw here at table, ◌>>=◌, rw saw at read, ◌>>=◌) (ap (λ b. entries_from notes version noise b (items_view (drop (i + 1) values))) (sym pushed))

@@ -30,7 +30,7 @@ use Rattle.lab_file.specs.declared.lab.Entry.{Entry}
 use Rattle.lab_file.specs.Attached.{draft_with}
 use Rattle.lab_file.specs.Lab.{LabData, names_of}
 use Rattle.job_tables.specs.JobsOf.{top, jobs_of}
-use Rattle.lab_file.specs.LabOf.{version_at, new_name, entry_of, are_tables, entries_from, entries_of, entries_at, longest_file, reading, lab_in, lab_of}
+use Rattle.lab_file.specs.LabOf.{version_at, new_name, entry_noise, entry_of, are_tables, entries_from, entries_of, entries_at, longest_file, reading, lab_in, lab_of}
 use Rattle.lab_file.specs.Notes.{has_note, IsNoted, IsNotedDraft, AreNoted, LabsAreNoted}
 
 -- each answer is so
@@ -161,33 +161,34 @@ draft_noted notes entry tree = behind (text_at (at entry key.Kind) tree) (λ kin
 abbrev IsNotedEntry : List PlugNote → Entry → Type 0
 IsNotedEntry notes entry = IsNotedDraft notes entry.draft
 
-entry_noted : (notes : List PlugNote) (noise : FlipRate) (before : List Entry) (tree : Members)
-    → Only (IsNotedEntry notes) (entry_of notes noise before tree)
+entry_noted : (notes : List PlugNote) (version : ℕ) (noise : FlipRate) (before : List Entry) (tree : Members)
+    → Only (IsNotedEntry notes) (entry_of notes version noise before tree)
 unfolding entry_of
-entry_noted notes noise before tree =
+entry_noted notes version noise before tree =
     behind (new_name (length before + 1) before tree) (λ name _.
     behind (draft_of notes (length before + 1) tree) (λ draft is.
-    one _ _ ((draft_noted notes (length before + 1) tree).at draft is)))
+    behind (entry_noise version noise (length before + 1) tree) (λ own _.
+    one _ _ ((draft_noted notes (length before + 1) tree).at draft is))))
 
-entries_noted : (notes : List PlugNote) (noise : FlipRate) (before : List Entry) (items : Items) → AreNoted notes before
-    → Only (AreNoted notes) (entries_from notes noise before items)
-entries_noted notes noise before no_items h = one _ _ h
-entries_noted notes noise before (item held rest) h =
+entries_noted : (notes : List PlugNote) (version : ℕ) (noise : FlipRate) (before : List Entry) (items : Items) → AreNoted notes before
+    → Only (AreNoted notes) (entries_from notes version noise before items)
+entries_noted notes version noise before no_items h = one _ _ h
+entries_noted notes version noise before (item held rest) h =
     behind (keys.table_of (top key.Entry) held) (λ tree _.
-    behind (entry_of notes noise before tree) (λ entry is.
-    entries_noted notes noise (before ++ entry ∷ []) rest
-    (All-push (IsNotedEntry notes) before entry h ((entry_noted notes noise before tree).at entry is))))
+    behind (entry_of notes version noise before tree) (λ entry is.
+    entries_noted notes version noise (before ++ entry ∷ []) rest
+    (All-push (IsNotedEntry notes) before entry h ((entry_noted notes version noise before tree).at entry is))))
 
-array_noted : (notes : List PlugNote) (noise : FlipRate) (items : Items) → Only (AreNoted notes) (entries_of notes noise items)
+array_noted : (notes : List PlugNote) (version : ℕ) (noise : FlipRate) (items : Items) → Only (AreNoted notes) (entries_of notes version noise items)
 unfolding entries_of
-array_noted notes noise items =
+array_noted notes version noise items =
     either (are_tables items)
-    (either (nat_le 1 (item_count items) && nat_le (item_count items) 64) (entries_noted notes noise [] items (All-nil (IsNotedEntry notes))) (none _ _))
+    (either (nat_le 1 (item_count items) && nat_le (item_count items) 64) (entries_noted notes version noise [] items (All-nil (IsNotedEntry notes))) (none _ _))
     (none _ _)
 
-key_noted : (notes : List PlugNote) (noise : FlipRate) (tree : Members) → Only (AreNoted notes) (entries_at notes noise tree)
+key_noted : (notes : List PlugNote) (version : ℕ) (noise : FlipRate) (tree : Members) → Only (AreNoted notes) (entries_at notes version noise tree)
 unfolding entries_at
-key_noted notes noise tree = behind (array_at (top key.Entry) tree) (λ items _. array_noted notes noise items)
+key_noted notes version noise tree = behind (array_at (top key.Entry) tree) (λ items _. array_noted notes version noise items)
 
 abbrev IsNotedLab : List PlugNote → LabData → Type 0
 IsNotedLab notes lab = AreNoted notes lab.entries
@@ -197,9 +198,9 @@ unfolding lab_in
 document_noted notes tree =
     behind (version_at tree) (λ version _.
     behind (game_of version tree) (λ game _.
-    behind (entries_at notes game.2 tree) (λ entries is.
+    behind (entries_at notes version game.2 tree) (λ entries is.
     behind (jobs_of (names_of entries) tree) (λ jobs _.
-    one _ _ ((key_noted notes game.2 tree).at entries is)))))
+    one _ _ ((key_noted notes version game.2 tree).at entries is)))))
 
 lab_noted : (notes : List PlugNote) (bytes : List ℕ) → Only (IsNotedLab notes) (lab_of notes bytes)
 unfolding lab_of

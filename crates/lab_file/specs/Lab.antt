@@ -1,8 +1,9 @@
 -- A lab: the game, the entries and the jobs that a lab file stands for.
-use Rattle.std.specs.Prelude.{ℕ, ◌≢◌, ◌<◌, ◌≤◌, List, [], length, map, slice_index_or}
+use Rattle.std.specs.Prelude.{ℕ, ◌≡◌, ◌≢◌, ◌⊎◌, ◌<◌, ◌≤◌, List, [], length, map, slice_index_or, All}
 use Rattle.history_model.specs.declared.moves.Move.TheVariants.{C}
 use Rattle.history_model.specs.Game.{Payoffs}
 use Rattle.history_model.specs.Noise.{FlipRate, no_noise}
+use Rattle.game_file.specs.GameOf.{IsOffset}
 use Rattle.strategy_file.specs.declared.draft.Draft.TheVariants.{FromFile}
 use Rattle.lab_file.specs.declared.lab.Entry.{Entry}
 use Rattle.job_tables.specs.declared.jobs.Jobs.{Jobs}
@@ -38,6 +39,15 @@ pub record AreEntries (entries : List Entry) : Type 0 where
   pub few : length entries ≤ 64
   pub differ : NamesDiffer entries
 
+-- each entry has this noise
+abbrev pub HaveNoise : FlipRate → List Entry → Type 0
+HaveNoise noise entries = All (λ (entry : Entry). entry.noise ≡ noise) entries
+
+-- of version 1 or 2; in version 1 no payoff was raised, and each entry has the lab's noise
 pub record IsLab (lab : LabData) : Type 0 where
+  pub version : (lab.version ≡ 1) ⊎ (lab.version ≡ 2)
+  pub offset : IsOffset lab.game lab.offset
+  pub unraised : lab.version ≡ 1 → lab.offset ≡ 0
+  pub one_noise : lab.version ≡ 1 → HaveNoise lab.noise lab.entries
   pub entries : AreEntries lab.entries
   pub jobs : AreJobs (length lab.entries) lab.jobs

@@ -84,16 +84,18 @@ impl Entries {
 }
 
 /// What a lab file stands for. It is valid by its type: it has 1 to 64 entries of different names, and
-/// each job is one of these entries, within the ranges of its keys.
+/// each job is one of these entries, within the ranges of its keys; in version 1 no payoff was raised,
+/// and each entry has the lab's noise.
 #[derive(Drop)]
 pub struct Lab {
-    /// The version of the file, which is 1.
+    /// The version of the file, 1 or 2.
     pub version: u32,
-    /// What was added to each payoff of the file, so that none is below 0.
+    /// What was added to each payoff of the file, so that none is below 0: from 0 to 1,000,000, and
+    /// 0 in version 1.
     pub offset: u32,
     /// The payoffs with the offset, each from 0 to 1,000,000.
     pub game: Game,
-    /// The noise of the lab.
+    /// The noise of the lab: in version 1 that of every entry.
     pub noise: Noise,
     /// 1 to 64 entries, in file order.
     pub entries: Entries,

@@ -18,7 +18,7 @@ use toml::Table;
 // The longest lab file, in bytes: 1 MiB.
 const LONGEST_LAB: usize = 1_048_576;
 
-// The version of a document, of which there is one.
+// The version of a document.
 #[tactic(auto, unfolding(crate::specs::LabOf::version_at))]
 fn version_at(tree: &Table) -> Result<u32, Refusal>
     ensures { result ≡ version_at (table_view tree.now) }
@@ -26,6 +26,7 @@ fn version_at(tree: &Table) -> Result<u32, Refusal>
     let value = value_at(tree, top(KeyName::Version))?;
     match value.as_integer() {
         Some(1) => Ok(1),
+        Some(2) => Ok(2),
         Some(_) => Err(Refusal::Version),
         None => Err(Refusal::WrongType(top(KeyName::Version))),
     }
@@ -37,7 +38,7 @@ fn lab_in(alloc: Global, tree: &Table, notes: &Vec<PlugNote>) -> Result<Lab, Fil
 {
     let version = version_at(tree)?;
     let (game, offset, noise) = read_game(tree, version)?;
-    let entries = entries_at(alloc, tree, notes, noise)?;
+    let entries = entries_at(alloc, tree, notes, version, noise)?;
     let names = names_of(alloc, &entries)?;
     let jobs = jobs_of(alloc, names.as_slice(), tree)?;
     Ok(Lab {

@@ -1,6 +1,6 @@
 -- What stands at a key of a table of the lab file: the value, or why the file is refused. A key that must be there is
 -- tested in the order absent, of another type, out of range.
-use Rattle.std.specs.Prelude.{ℕ, ℤ, pos, negsuc, ◌+◌, ◌==◌, ◌&&◌, Bool, true, false, nat_le, is_some, List, [], ◌∷◌, Option, Some, None, option_map, option_and_then, Result, Ok, Err, if◌then◌else◌}
+use Rattle.std.specs.Prelude.{ℕ, ℤ, pos, negsuc, ◌+◌, ◌==◌, ◌&&◌, Bool, true, false, nat_le, int_le, is_some, List, [], ◌∷◌, Option, Some, None, option_map, option_and_then, Result, Ok, Err, if◌then◌else◌}
 use Rattle.std.specs.Option.{option_map_or}
 use Rattle.toml.specs.Data.{Data, Members, Items, no_items, item, get_member, as_integer, as_str, as_bool, as_array, as_table}
 use Rattle.refusals.specs.declared.place.Place.{Place}
@@ -37,6 +37,13 @@ in_range low high (negsuc n) = None
 -- a whole number from `low` to `high`
 abbrev pub whole_of : Place → ℕ → ℕ → Data → Result ℕ Refusal
 whole_of place low high found = or_refuse (WrongType place) (as_integer found) >>= λ n. or_refuse (OutOfRange place) (in_range low high n)
+
+-- the same in a range that may begin below 0
+abbrev pub signed_in_range : ℤ → ℤ → ℤ → Option ℤ
+signed_in_range low high n = if int_le low n && int_le n high then Some n else None
+
+abbrev pub signed_of : Place → ℤ → ℤ → Data → Result ℤ Refusal
+signed_of place low high found = or_refuse (WrongType place) (as_integer found) >>= λ n. or_refuse (OutOfRange place) (signed_in_range low high n)
 
 -- every item is a whole number
 abbrev pub are_whole : Items → Bool
@@ -108,6 +115,9 @@ table_at place tree = value_at place tree >>= table_of place
 
 abbrev pub whole_at : Place → ℕ → ℕ → Members → Result ℕ Refusal
 whole_at place low high tree = value_at place tree >>= whole_of place low high
+
+abbrev pub signed_at : Place → ℤ → ℤ → Members → Result ℤ Refusal
+signed_at place low high tree = value_at place tree >>= signed_of place low high
 
 abbrev pub wholes_at : Place → ℕ → ℕ → Members → Result (List ℕ) Refusal
 wholes_at place count high tree = value_at place tree >>= wholes_of place count high

@@ -1,11 +1,13 @@
 //! What stands at a key of a table.
-ghost use Rattle.std.specs.Prelude.{◌≡◌, ℕ, ◌≤◌, ◌<◌, length, option_map, slice_index, IfOk};
+ghost use Rattle.std.specs.Prelude.{◌≡◌, ℕ, ◌≤◌, ◌<◌, ◌≤ℤ◌, length, option_map, slice_index, IfOk};
 ghost use Rattle.toml.specs.Data.{get_member};
 ghost use Rattle.toml.specs.View.{view, table_view, array_view};
 ghost use Rattle.refusals.specs.Refusing.{Gives, seen_by};
-ghost use Rattle.lab_keys.specs.Keys.{found_at, value_at, text_at, array_at, table_at, whole_at, wholes_at, truth_at, optional_table_at, optional_pairs_at};
+ghost use Rattle.lab_keys.specs.Keys.{found_at, value_at, text_at, array_at, table_at, whole_at, signed_at, wholes_at, truth_at, optional_table_at, optional_pairs_at};
 
-use crate::values::{array_of, pairs_in, table_of, text_of, truth_of, whole_of, wholes_of};
+use crate::values::{
+    array_of, pairs_in, signed_of, table_of, text_of, truth_of, whole_of, wholes_of,
+};
 use refusals::{FileError, Place, Refusal};
 use std::alloc::Global;
 use toml::value::Array;
@@ -85,6 +87,19 @@ pub fn whole_at(table: &Table, place: Place, low: u64, high: u64) -> Result<u64,
 {
     let value = value_at(table, place)?;
     whole_of(value, place, low, high)
+}
+
+/// The whole number from `low` to `high` at a key. Both ends may lie below 0.
+///
+/// # Errors
+///
+/// `MissingKey`, `WrongType` and `OutOfRange`.
+pub fn signed_at(table: &Table, place: Place, low: i64, high: i64) -> Result<i64, Refusal>
+    ensures exact { result ≡ signed_at place low high (table_view table.now) }
+    ensures within { IfOk result (λ n. (low ≤ℤ n) × (n ≤ℤ high)) }
+{
+    let value = value_at(table, place)?;
+    signed_of(value, place, low, high)
 }
 
 /// So many whole numbers from 0 to `high` in an array at a key.

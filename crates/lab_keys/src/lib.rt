@@ -9,9 +9,9 @@ mod keys;
 mod values;
 
 pub use keys::{
-    array_at, found_at, optional_pairs_at, optional_table_at, table_at, text_at, truth_at,
-    value_at, whole_at, wholes_at,
+    array_at, found_at, optional_pairs_at, optional_table_at, signed_at, table_at, text_at,
+    truth_at, value_at, whole_at, wholes_at,
 };
 pub use values::{
-    array_of, number_within, pair_of, table_of, text_of, truth_of, whole_of, wholes_of,
+    array_of, number_within, pair_of, signed_of, table_of, text_of, truth_of, whole_of, wholes_of,
 };

@@ -1,8 +1,8 @@
 //! Values by their types and ranges. Each call takes the place of the value, which refusals name.
-ghost use Rattle.std.specs.Prelude.{◌≡◌, ℕ, ◌≤◌, ◌<◌, length, slice_index, option_map, IfOk, IfSome};
+ghost use Rattle.std.specs.Prelude.{◌≡◌, ℕ, ◌≤◌, ◌<◌, ◌≤ℤ◌, length, slice_index, option_map, IfOk, IfSome};
 ghost use Rattle.toml.specs.View.{view, table_view, array_view};
 ghost use Rattle.refusals.specs.Refusing.{Gives, seen_by};
-ghost use Rattle.lab_keys.specs.Keys.{text_of, truth_of, array_of, table_of, whole_of, in_range, are_whole, number_within, numbers_within, wholes_in, wholes_of, are_texts, are_text_lists, is_pair, are_pairs, pairs_in, pair_in, pair_of};
+ghost use Rattle.lab_keys.specs.Keys.{text_of, truth_of, array_of, table_of, whole_of, in_range, signed_of, signed_in_range, are_whole, number_within, numbers_within, wholes_in, wholes_of, are_texts, are_text_lists, is_pair, are_pairs, pairs_in, pair_in, pair_of};
 
 use refusals::{FileError, Place, Refusal};
 use std::alloc::{AllocError, Global};
@@ -106,6 +106,35 @@ fn in_range(found: i64, low: u64, high: u64) -> Option<u64>
     }
     let n = found as u64;
     if low <= n && n <= high { Some(n) } else { None }
+}
+
+/// The whole number from `low` to `high` that a value is. Both ends may lie below 0.
+///
+/// # Errors
+///
+/// `WrongType` where it is no whole number, and `OutOfRange` where it is another one.
+pub fn signed_of(value: &Value, place: Place, low: i64, high: i64) -> Result<i64, Refusal>
+    ensures exact { result ≡ signed_of place low high (view value.now) }
+    ensures within { IfOk result (λ n. (low ≤ℤ n) × (n ≤ℤ high)) }
+{
+    match value.as_integer() {
+        Some(found) => match signed_in_range(found, low, high) {
+            Some(n) => Ok(n),
+            None => Err(Refusal::OutOfRange(place)),
+        },
+        None => Err(Refusal::WrongType(place)),
+    }
+}
+
+fn signed_in_range(found: i64, low: i64, high: i64) -> Option<i64>
+    ensures found { result ≡ signed_in_range low high found }
+    ensures within { IfSome result (λ n. (low ≤ℤ n) × (n ≤ℤ high)) }
+{
+    if low <= found && found <= high {
+        Some(found)
+    } else {
+        None
+    }
 }
 
 fn are_whole(array: &Array) -> bool
