@@ -69,22 +69,20 @@ fn serve(
     lab: &Lab,
     job: Job<'_>,
     second: &Second,
-    notes: &Vec<PlugNote>,
     bench: &mut Bench,
 ) -> Result<Output, Hindrance>
     requires fits { Fits (⟦<Bench as Seen>⟧.view bench.old) }
-    requires notes { notes.now.items ≡ notes_of (players_of (⟦<Bench as Seen>⟧.view bench.old)) }
     requires job { HasJob lab.now job }
-    requires fit { IsFit (command_of job) notes.now.items lab.now }
+    requires fit { IsFit (command_of job) (notes_of (players_of (⟦<Bench as Seen>⟧.view bench.old))) lab.now }
     ensures served { Serves (forms.Lab (command_of job.entry)) (⟦<Bench as Seen>⟧.view bench.old) (⟦<Bench as Seen>⟧.view bench.new) (OfLab lab.now second.now) result }
     ensures kept { KeepsBench (⟦<Bench as Seen>⟧.view bench.old) (⟦<Bench as Seen>⟧.view bench.new) }
 {
     match job {
-        Job::Match(_) => match lab_match(alloc, lab, notes, bench) {
+        Job::Match(job) => match lab_match(alloc, lab, job, bench) {
             Ok(report) => Ok(Output::Report(report)),
             Err(_) => Err(Hindrance::NoMemory),
         },
-        Job::Tournament(_) => match lab_tournament(alloc, lab, notes, bench) {
+        Job::Tournament(job) => match lab_tournament(alloc, lab, job, bench) {
             Ok(report) => Ok(Output::Report(report)),
             Err(_) => Err(Hindrance::NoMemory),
         },
@@ -119,7 +117,7 @@ fn answer_lab<L: Library, O: Sink>(
     };
     match read_second(alloc, command, second_name(words), files) {
         Ok(second) => {
-            let served = serve(alloc, &lab, job, &second, notes, bench);
+            let served = serve(alloc, &lab, job, &second, bench);
             deliver(alloc, served, out)
         }
         Err(error) => error.status(),
