@@ -8,6 +8,8 @@ mod drilled;
 #[cfg(test)]
 mod echo;
 #[cfg(test)]
+mod grids;
+#[cfg(test)]
 mod machines;
 #[cfg(test)]
 mod matches;

@@ -9,7 +9,12 @@ use player_core::{Kind, Player, Sheet, no_name};
 use std::alloc::{AllocError, Global};
 use std::test::Fail;
 
-fn machine(alloc: Global, opening: u32, table: &[u32], next: &[u32]) -> Result<Sheet, AllocError>
+pub(crate) fn machine(
+    alloc: Global,
+    opening: u32,
+    table: &[u32],
+    next: &[u32],
+) -> Result<Sheet, AllocError>
     requires opening { opening ≤ 1 }
     requires table { AreWithin 1 table.now }
     requires some { 1 ≤ length next.now / 2 }

@@ -12,7 +12,13 @@ use std::test::Fail;
 // How many histories of up to 6 plays there are.
 const HISTORIES: u32 = 5461;
 
-fn table(alloc: Global, den: u32, looks: [u32; 3], opening: Vec<u32>, table: Vec<u32>) -> Sheet
+pub(crate) fn table(
+    alloc: Global,
+    den: u32,
+    looks: [u32; 3],
+    opening: Vec<u32>,
+    table: Vec<u32>,
+) -> Sheet
     requires some { 1 ≤ den }
     requires few { den ≤ 1000 }
     requires own { slice_index looks 0 ≤ 4 }

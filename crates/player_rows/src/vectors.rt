@@ -9,7 +9,12 @@ use player_core::{Kind, Player, Sheet, no_name};
 use std::alloc::{AllocError, Global};
 use std::test::Fail;
 
-fn vector(alloc: Global, den: u32, opening: u32, table: [u32; 4]) -> Result<Sheet, AllocError>
+pub(crate) fn vector(
+    alloc: Global,
+    den: u32,
+    opening: u32,
+    table: [u32; 4],
+) -> Result<Sheet, AllocError>
     requires some { 1 ≤ den }
     requires few { den ≤ 1000 }
     requires opening { opening ≤ den }
