@@ -1,5 +1,5 @@
 -- How a call ends, step by step.
-use Rattle.std.proofs.Common.{◌≡◌, ℕ, true, List, [], Option, Result, Ok, Err, refl, ◌∙◌, ap, inl, inr, subst}
+use Rattle.std.proofs.Common.{◌≡◌, ℕ, List, [], Option, Result, Ok, Err, refl, ◌∙◌, ap, inl, inr, subst}
 use Rattle.std.specs.Result.{ForOk}
 use Rattle.player_core.specs.State.{BenchState, lasting_of}
 use Rattle.player_core.specs.Counts.{turns_of}
@@ -22,8 +22,8 @@ use Rattle.axlab_core.specs.declared.words.Form.TheVariants.{Lab, Drill, Unbuilt
 use Rattle.axlab_core.specs.Input.{Input, Names, OfLab, OfWords, Call, Comes, Finds, call_of, found_by, players, tested}
 use Rattle.axlab_core.specs.Loading.{Stop, Missing, Refuses, Denies, ◌>>=◌, IsTold}
 use Rattle.axlab_core.specs.Files.{AskedInOrder, ReadsInOrder}
-use Rattle.play_commands.specs.MayAsk.{MayAskMatch, MayAskTournament, UpTo}
-use Rattle.axlab_core.specs.Bounded.{AskedForInput, IsBounded, MayAsk}
+use Rattle.play_commands.specs.MayAsk.{UpTo}
+use Rattle.axlab_core.specs.Bounded.{IsBounded, MayAsk}
 use Rattle.play_commands.specs.RightMatch.{IsAskedMatch}
 use Rattle.play_commands.specs.RightTournament.{IsAskedTournament}
 use Rattle.lab_file.specs.Lab.{LabData}
@@ -31,7 +31,6 @@ use Rattle.axlab_core.specs.Outcome.{Ends, EndsBy, IsUnread, IsUntouched, IsUnwr
 use Rattle.axlab_core.specs.Output.{Delivers, GrewByFront, IsSendable, output_text}
 use Rattle.axlab_core.specs.Right.{IsServed, Serves, ServesWell}
 use Rattle.axlab_core.specs.Steps.{Explains, LoadsInput, load_status}
-use Rattle.axlab_core.specs.Words.{needs_lab}
 use Rattle.axlab_core.specs.World.{World}
 use Rattle.axlab_core.proofs.Fronts.{front_none}
 

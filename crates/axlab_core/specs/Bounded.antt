@@ -1,5 +1,4 @@
 -- How often a call may advance the players of each side, whatever its answer.
-use Rattle.std.specs.Prelude.{ℕ}
 use Rattle.player_core.specs.State.{BenchState}
 use Rattle.lab_file.specs.declared.command.Command.TheVariants as commands
 use Rattle.play_commands.specs.MayAsk.{MayAskDrill, MayAskMatch, MayAskTournament, UpTo}

@@ -5,8 +5,6 @@ use Rattle.refusals.specs.declared.refusal.FileError.{FileError}
 use Rattle.refusals.specs.declared.refusal.FileError.TheVariants as file
 use Rattle.lab_ports.specs.Holding.{Holding}
 use Rattle.strategy_file.specs.declared.draft.Draft.{Draft}
-use Rattle.strategy_file.specs.declared.draft.Draft.TheVariants.{Ready, FromFile}
-use Rattle.lab_file.specs.declared.lab.Entry.{Entry}
 use Rattle.lab_file.specs.Lab.{LabData, entry_at}
 use Rattle.lab_file.specs.Attached.{set_draft}
 use Rattle.lab_file.specs.Limits.{limits_of}
