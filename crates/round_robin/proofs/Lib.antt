@@ -2,6 +2,7 @@ pub mod Asking
 pub mod AskingAll
 pub mod Contesting
 pub mod Counting
+pub mod Offsets
 pub mod Paying
 pub mod Ranging
 pub mod Telling

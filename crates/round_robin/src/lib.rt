@@ -6,6 +6,7 @@ mod contestant;
 mod entrant;
 pub mod laws;
 mod lines;
+pub mod lowering;
 mod pairing;
 mod sureness;
 mod tournament;
