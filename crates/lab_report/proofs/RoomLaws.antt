@@ -1,6 +1,7 @@
 -- A line that is allowed leaves room for one more.
 use Rattle.std.proofs.Common.{◌≡◌, ℕ, ◌<◌, true, not, eqb, ltb, ◌&&◌, List, [], ◌∷◌, length, Option, Some, None, Result, Ok, Err, IfOk, refl, sym, ap, subst, ◌∙◌, arith, length-append}
 use Rattle.std.proofs.lemmas.Bool.Decides.{nat_tests}
+use Rattle.std.proofs.lemmas.Int.{ints}
 use Rattle.std.proofs.lemmas.List.Elements.{All-nil, All-push}
 use Rattle.fixed_span.specs.Span.{Ends}
 use Rattle.result_lines.specs.declared.line.MatchLine.{MatchLine}
@@ -36,7 +37,7 @@ ltb_is : (a b : ℕ) → ltb a b ≡ true → a < b
 ltb_is a b h = grind (arith, nat_tests)
 
 summable : (score : Ends) → IsScore score → IsSummable score
-summable score h = record { low = h.low; ordered = h.ordered; high = h.high }
+summable score h = record { low = omega (arith, ints, h.low); ordered = h.ordered; high = h.high }
 
 match_room : (game : Payoffs) (names : List (List ℕ)) (table : Table) (m : ShownMatch) → HasTableRoom names table → is_match m ≡ true → match_fits game table m ≡ true → HasTableRoom (names_with_match names m) (with_match names table m)
 match_room game names table m room h e =

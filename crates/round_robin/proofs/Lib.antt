@@ -4,6 +4,7 @@ pub mod ByRule
 pub mod Contesting
 pub mod Counting
 pub mod Entering
+pub mod Offsets
 pub mod Paying
 pub mod Ranging
 pub mod Telling

@@ -3,6 +3,7 @@ pub mod Contest
 pub mod Entries
 pub mod Laws
 pub mod Line
+pub mod Lowering
 pub mod Totals
 pub mod Truth
 pub mod OnBench

@@ -6,6 +6,7 @@ mod entrant;
 mod entries;
 pub mod laws;
 mod lines;
+pub mod lowering;
 mod pairing;
 mod sureness;
 mod tournament;
