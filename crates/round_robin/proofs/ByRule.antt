@@ -1,7 +1,6 @@
 -- Lines, totals and ranks of what entrants play are right by the rules of their sheets.
-use Rattle.std.proofs.Common.{◌≡◌, ℕ, ◌*◌, ◌<◌, List, [], ◌∷◌, length, map, get_or, Option, Some, None, pos, refl, sym, ◌∙◌, ap, subst, arith}
+use Rattle.std.proofs.Common.{◌≡◌, ℕ, ◌<◌, List, [], ◌∷◌, length, map, get_or, Option, Some, None, refl, sym, ◌∙◌, ap, subst, arith}
 use Rattle.std.specs.List.{All, range_with_len}
-use Rattle.std.proofs.lemmas.Int.{ints}
 use Rattle.std.proofs.lemmas.List.{length-map, get_or-map}
 use Rattle.std.proofs.lemmas.List.Elements.{All-head, All-tail}
 use Rattle.std.proofs.lemmas.List.FromFn.{get_or-map-range_with_len, get_or-range_with_len, length-range_with_len}
@@ -10,20 +9,21 @@ use Rattle.history_model.specs.Path.{match_path}
 use Rattle.history_model.specs.declared.tally.Tally.{Tally}
 use Rattle.player_core.specs.State.{Lasting}
 use Rattle.player_core.specs.Sheet.{IsSheet}
-use Rattle.fixed_span.specs.Span.{Ends, Fraction, Holds, point, score_units}
+use Rattle.fixed_span.specs.Span.{Ends, Fraction, Holds, score_units}
 use Rattle.result_lines.specs.declared.line.MatchLine.{MatchLine}
 use Rattle.result_lines.specs.declared.ranking.Rank.TheVariants.{At}
+use Rattle.result_lines.specs.Lowered.{lowered}
 use Rattle.result_lines.specs.Ranks.{rank_of}
 use Rattle.result_lines.specs.Totals.{entry_of, entries_of, pairs_of, total_of, totals_of}
 use Rattle.sheet_rules.specs.Entrants.{Entrant, automaton_of_entrant, entrant_at, expects_at, expects_in, no_entrant}
 use Rattle.sheet_rules.specs.Laws.{EntrantsFollowTheirRules}
-use Rattle.sheet_rules.specs.RightLine.{IsRightScore, units_paid}
+use Rattle.sheet_rules.specs.RightLine.{IsRightScore}
 use Rattle.round_robin.specs.Contest.{ArePairs, IsPair, entrant_strategies, no_strategy, strategy_at, strategy_of_entrant}
 use Rattle.round_robin.specs.Entries.{AreRightEntries, EntriesAreTrue, IsEntry, IsRightAmong, IsRightEntry, IsTrueByRule, totals_by_rule}
 use Rattle.round_robin.specs.Laws.{AreSides}
-use Rattle.round_robin.specs.Line.{IsScored}
-use Rattle.round_robin.specs.Totals.{AreLines, IsLineBetween}
-use Rattle.round_robin.specs.Truth.{IsTrueTournament, TournamentsAreTrue, expects_of, nothing, own_expected, plus, true_rank, true_total, true_totals}
+use Rattle.round_robin.specs.Lowering.{AreLoweredLines, IsLoweredLineBetween, IsScoredLess, IsTrueLoweredTournament, LinesAreLowered, LoweredTournamentsAreTrue, TournamentsAreLowered, expects_less}
+use Rattle.round_robin.specs.Totals.{AreLines}
+use Rattle.round_robin.specs.Truth.{nothing, own_expected, plus, true_rank, true_total, true_totals}
 
 -- ---- true totals rest on what is expected of pairs that meet
 
@@ -55,30 +55,27 @@ module _ (f g : ℕ → ℕ → Fraction) (count : ℕ) (same : (i j : ℕ) → 
 
 -- ---- one line
 
-no_offset : (turns points : ℕ) → pos (points * score_units) ≡ units_paid 0 turns points
-no_offset turns points = omega (arith, ints)
-
 holds_same : (span : Ends) (x y : Fraction) → x ≡ y → Holds score_units span x → Holds score_units span y
 holds_same span x y same holds = rw (← same) holds
 
-module _ (rules : EntrantsFollowTheirRules) (players : List Lasting) (game : Payoffs) where
+module _ (rules : EntrantsFollowTheirRules) (players : List Lasting) (game : Payoffs) (offset : ℕ) where
   module _ (left right : Entrant) (left_valid : IsSheet left.sheet) (right_valid : IsSheet right.sheet)
       (sides : AreSides (automaton_of_entrant players left) left.noise (automaton_of_entrant players right) right.noise) where
     right_score : (line : MatchLine) (tally : Option Tally)
-        → IsScored (automaton_of_entrant players left) left.noise (automaton_of_entrant players right) right.noise game line.turns line tally
-        → IsRightScore players game 0 left right line tally
+        → IsScoredLess (automaton_of_entrant players left) left.noise (automaton_of_entrant players right) right.noise game offset line.turns line tally
+        → IsRightScore players game offset left right line tally
     right_score line (Some tally) played = record {
       sure = played.sure;
       history = match_path (automaton_of_entrant players left) (automaton_of_entrant players right) line.turns;
       by_rules = rules.path players left right line.turns left_valid right_valid sides.left sides.right played.sure;
       plays = played.plays;
-      left_score = played.left ∙ ap point (no_offset line.turns _);
-      right_score = played.right ∙ ap point (no_offset line.turns _);
+      left_score = played.left;
+      right_score = played.right;
     }
     right_score line None mixed = record {
       unsure = mixed.unsure;
-      left_holds = holds_same line.left_score _ (expects_in players game 0 line.turns left right) (rules.expects players game 0 line.turns left right left_valid right_valid) mixed.left.holds;
-      right_holds = holds_same line.right_score _ (expects_in players game 0 line.turns right left) (rules.expects players game 0 line.turns right left right_valid left_valid) mixed.right.holds;
+      left_holds = holds_same line.left_score _ (expects_in players game offset line.turns left right) (rules.expects players game offset line.turns left right left_valid right_valid) mixed.left.holds;
+      right_holds = holds_same line.right_score _ (expects_in players game offset line.turns right left) (rules.expects players game offset line.turns right left right_valid left_valid) mixed.right.holds;
       left_width = mixed.left.width;
       right_width = mixed.right.width;
       left_tight = mixed.left.narrow;
@@ -92,16 +89,16 @@ module _ (rules : EntrantsFollowTheirRules) (players : List Lasting) (game : Pay
     strategy_there place inside = get_or-map (strategy_of_entrant players) entrants place no_entrant no_strategy inside
 
     expects_there : (i j : ℕ) → i < length entrants → j < length entrants
-        → expects_of (entrant_strategies players entrants) game turns i j ≡ expects_at players game 0 turns entrants i j
+        → expects_less (entrant_strategies players entrants) game offset turns i j ≡ expects_at players game offset turns entrants i j
     expects_there i j left_inside right_inside =
         let l = strategy_there i left_inside in
         let r = strategy_there j right_inside in
-        rw (l, r) (rules.expects players game 0 turns (entrant_at entrants i) (entrant_at entrants j)
+        rw (l, r) (rules.expects players game offset turns (entrant_at entrants i) (entrant_at entrants j)
         (are i no_entrant left_inside).valid (are j no_entrant right_inside).valid)
 
     -- a line between strategies is right for their entrants
-    line_there : (line : MatchLine) → IsPair (length entrants) (line.left, line.right) → IsLineBetween (entrant_strategies players entrants) game turns line
-        → IsRightAmong players game 0 turns entrants line
+    line_there : (line : MatchLine) → IsPair (length entrants) (line.left, line.right) → IsLoweredLineBetween (entrant_strategies players entrants) game offset turns line
+        → IsRightAmong players game offset turns entrants line
     line_there line pair is =
         let left_inside : line.left < length entrants = omega (arith, pair.ordered, pair.inside) in
         let l = strategy_there line.left left_inside in
@@ -114,8 +111,14 @@ module _ (rules : EntrantsFollowTheirRules) (players : List Lasting) (game : Pay
               (rw (← is.turns) at (rw (l, r) at is.is));
         }
 
-    module _ (true_of : TournamentsAreTrue) (pairs : List (ℕ × ℕ)) (are_pairs : ArePairs (length entrants) pairs) (lines : List MatchLine)
-        (made : AreLines (entrant_strategies players entrants) game turns pairs lines) where
+    module _ (true_of : LoweredTournamentsAreTrue) (low_of : TournamentsAreLowered) (pairs : List (ℕ × ℕ)) (are_pairs : ArePairs (length entrants) pairs) (raised : List MatchLine)
+        (lines_raised : AreLines (entrant_strategies players entrants) game turns pairs raised) where
+      abbrev lines : List MatchLine
+      lines = map (lowered offset) raised
+
+      made : AreLoweredLines (entrant_strategies players entrants) game offset turns pairs lines
+      made = low_of.lines (entrant_strategies players entrants) game offset turns pairs raised lines_raised
+
       many : length (entrant_strategies players entrants) ≡ length entrants
       many = length-map entrants (strategy_of_entrant players)
 
@@ -129,19 +132,19 @@ module _ (rules : EntrantsFollowTheirRules) (players : List Lasting) (game : Pay
           let Q : ℕ × ℕ → Type 0 = λ p. IsPair (length entrants) p in
           subst Q (get_or-map place lines k d (d.left, d.right) inside) there
 
-      truth : IsTrueTournament (entrant_strategies players entrants) game turns pairs lines
+      truth : IsTrueLoweredTournament (entrant_strategies players entrants) game offset turns pairs lines
       truth =
           let P : ℕ → Type 0 = λ n. ArePairs n pairs in
-          true_of (entrant_strategies players entrants) game turns pairs lines (subst P (sym many) are_pairs) made
+          true_of (entrant_strategies players entrants) game offset turns pairs raised (subst P (sym many) are_pairs) lines_raised
 
-      totals_there : true_totals (expects_of (entrant_strategies players entrants) game turns) pairs (length entrants) ≡ totals_by_rule players game 0 turns entrants pairs
+      totals_there : true_totals (expects_less (entrant_strategies players entrants) game offset turns) pairs (length entrants) ≡ totals_by_rule players game offset turns entrants pairs
       totals_there = same_totals _ _ (length entrants) expects_there pairs are_pairs.each
 
       -- the line of an entry is right
-      right_entry : AreRightEntries (totals_by_rule players game 0 turns entrants pairs) (length entrants) (entries_of (length entrants) lines)
+      right_entry : AreRightEntries (totals_by_rule players game offset turns entrants pairs) (length entrants) (entries_of (length entrants) lines)
       right_entry place none inside =
           let count = length entrants in
-          let expects = expects_of (entrant_strategies players entrants) game turns in
+          let expects = expects_less (entrant_strategies players entrants) game offset turns in
           let there : get_or (entries_of count lines) place none ≡ entry_of count lines place =
           get_or-map-range_with_len (entry_of count lines) 0 count place place none inside (omega arith) in
           let at : get_or (true_totals expects pairs count) place nothing ≡ true_total expects pairs place =
@@ -156,7 +159,7 @@ module _ (rules : EntrantsFollowTheirRules) (players : List Lasting) (game : Pay
           let P : List Fraction → Type 0 = λ totals. IsRightEntry totals place (get_or (entries_of count lines) place none) in
           subst P totals_there (subst (λ entry. IsRightEntry (true_totals expects pairs count) place entry) (sym there) here)
 
-      all_true : IsTrueByRule players game turns entrants pairs lines
+      all_true : IsTrueByRule players game offset turns entrants pairs lines
       all_true = record {
         lines_right = record {
           places = made.places;
@@ -165,10 +168,11 @@ module _ (rules : EntrantsFollowTheirRules) (players : List Lasting) (game : Pay
         entries_right = right_entry;
       }
 
-pub entries_are : EntrantsFollowTheirRules → TournamentsAreTrue → EntriesAreTrue
-entries_are rules true_of = record {
-  line = λ players left right game line left_valid right_valid sides is.
-      right_score rules players game left right left_valid right_valid sides line line.tally is;
-  tournament = λ players game turns entrants pairs lines are are_pairs made.
-      all_true rules players game turns entrants are true_of pairs are_pairs lines made;
+pub entries_are : EntrantsFollowTheirRules → LinesAreLowered → LoweredTournamentsAreTrue → TournamentsAreLowered → EntriesAreTrue
+entries_are rules low true_of low_of = record {
+  line = λ players left right game offset line left_valid right_valid sides is.
+      right_score rules players game offset left right left_valid right_valid sides (lowered offset line) line.tally
+      (low.line _ left.noise _ right.noise game offset line.turns line sides refl is);
+  tournament = λ players game offset turns entrants pairs lines are are_pairs made.
+      all_true rules players game offset turns entrants are true_of low_of pairs are_pairs lines made;
 }

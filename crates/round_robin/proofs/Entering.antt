@@ -1,14 +1,19 @@
 -- Entrants on a bench: what is so of what they play, before and after the bench was asked.
-use Rattle.std.proofs.Common.{◌≡◌, ◌↔◌, ◌⊎◌, inl, inr, ℕ, ◌^◌, ◌<◌, ◌≤◌, Bool, true, IsTrue, List, [], ◌∷◌, length, get_or, Result, Ok, Err, IfOk, refl, sym, ◌∙◌, ap, subst, arith}
+use Rattle.std.proofs.Common.{◌≡◌, ◌↔◌, ◌⊎◌, inl, inr, ℕ, ◌*◌, ◌^◌, ◌<◌, ◌≤◌, Bool, true, IsTrue, List, [], ◌∷◌, length, map, get_or, pos, neg_ℤ, ◌-ℤ◌, ◌≤ℤ◌, Result, Ok, Err, IfOk, refl, sym, ◌∙◌, ap, subst, arith}
 use Rattle.std.specs.List.{All}
+use Rattle.std.proofs.lemmas.Int.{ints}
 use Rattle.std.proofs.lemmas.List.{length-map, get_or-map}
+use Rattle.std.proofs.lemmas.List.Elements.{All-map}
+use Rattle.std.proofs.lemmas.List.FromFn.{length-map-range_with_len}
+use Rattle.fixed_span.specs.Span.{Ends, score_units}
+use Rattle.fixed_span.specs.Lowered as spans
 use Rattle.history_model.specs.Automaton.{Automaton, IsAutomaton}
 use Rattle.history_model.specs.Expectation.{ChooseAlike, player}
 use Rattle.history_model.specs.Game.{Payoffs, IsGame}
 use Rattle.player_core.specs.State.{BenchState, Lasting, lasting_of, players_of}
 use Rattle.player_core.specs.Sheet.{SheetData}
 use Rattle.player_core.specs.Fits.{Fits, SidesFit}
-use Rattle.player_core.specs.Bench.{KeepsBench}
+use Rattle.player_core.specs.Bench.{KeepsBench, SameTurns}
 use Rattle.player_core.specs.Entry.{entry_automaton}
 use Rattle.player_core.specs.Laws.{EntriesPlay}
 use Rattle.product_chain.specs.Expected.{IsSureMatch}
@@ -20,15 +25,17 @@ use Rattle.sheet_rules.specs.RightLine.{IsRightLine}
 use Rattle.match_play.specs.Known.{IsKnown}
 use Rattle.result_lines.specs.declared.tables.EntryLine.{EntryLine}
 use Rattle.result_lines.specs.declared.tables.Totals.{Totals}
-use Rattle.result_lines.specs.Totals.{entries_of}
+use Rattle.result_lines.specs.Lowered.{CanBeLowered, IsRaised, lowered}
+use Rattle.result_lines.specs.Totals.{IsScoreSpan, entries_of, entry_of, pairs_of}
 use Rattle.round_robin.specs.OnBench.{AreAskedOn, AtMostForOn}
-use Rattle.round_robin.specs.Asked.{AreAsked, AtMostTurns, bench_turns, most_for}
+use Rattle.round_robin.specs.Asked.{AreAsked, AtMostTurns, IsAsked, Turns, bench_turns, most_advances, most_for}
 use Rattle.round_robin.specs.Contest.{AreContestants, AreFewTurns, ArePairs, IsShort, IsSureStrategy, Strategy, entrant_strategies, strategies_of, strategy_of, strategy_of_entrant}
-use Rattle.round_robin.specs.Entries.{AreEntries, AreRightEntries, EntriesAreTrue, EntriesAskedOn, EntriesAtMostOn, IsEntry, IsGridOf, IsTrueByRule, totals_by_rule}
+use Rattle.round_robin.specs.Entries.{AreEntries, EntriesAreTrue, EntriesAskedOn, EntriesAtMostOn, EntryAskedOn, EntryAtMostOn, IsEntry, IsGridOf, IsInRangeLess, IsScoreLess, IsTrueByRule}
 use Rattle.round_robin.specs.Laws.{AreSides, IsInRange, LinesHold}
 use Rattle.round_robin.specs.Line.{IsLineOf}
 use Rattle.round_robin.specs.Totals.{AreLines}
 use Rattle.round_robin.proofs.Contesting.{known_kept}
+use Rattle.round_robin.proofs.Counting.{lines_few}
 
 -- ---- one match
 
@@ -71,23 +78,76 @@ module _ (law : EntriesPlay) (old mid : BenchState) (kept : KeepsBench old mid) 
       (subst (λ a. P a (entry_automaton (players_of mid) right)) (same_automaton left) after)
 
   -- the line of a match on the bench that was asked
-  pub right_line : EntriesAreTrue → (left right : Entrant) (game : Payoffs) (turns : ℕ) (line : MatchLine) → IsEntry (players_of old) left → IsEntry (players_of old) right → line.turns ≡ turns
+  pub right_line : EntriesAreTrue → (left right : Entrant) (game : Payoffs) (offset turns : ℕ) (line : MatchLine) → IsEntry (players_of old) left → IsEntry (players_of old) right → line.turns ≡ turns
       → AreSides (entry_automaton (players_of mid) left.sheet) left.noise (entry_automaton (players_of mid) right.sheet) right.noise
       → IsLineOf (entry_automaton (players_of mid) left.sheet) left.noise (entry_automaton (players_of mid) right.sheet) right.noise game turns line
-      → IsRightLine (players_of old) game 0 left right line
-  right_line true_of left right game turns line left_is right_is turns_are sides is =
+      → IsRightLine (players_of old) game offset left right (lowered offset line)
+  right_line true_of left right game offset turns line left_is right_is turns_are sides is =
       let there : IsLineOf (entry_automaton (players_of mid) left.sheet) left.noise (entry_automaton (players_of mid) right.sheet) right.noise game line.turns line = rw (← turns_are) at is in
-      true_of.line (players_of old) left right game line left_is.valid right_is.valid
+      true_of.line (players_of old) left right game offset line left_is.valid right_is.valid
       (before left.sheet right.sheet (λ a b. AreSides a left.noise b right.noise) sides)
       (before left.sheet right.sheet (λ a b. IsLineOf a left.noise b right.noise game line.turns line) there)
 
-  pub right_line_if : {E : Type 0} → EntriesAreTrue → (left right : Entrant) (game : Payoffs) (turns : ℕ) (made : Result MatchLine E) → IsEntry (players_of old) left → IsEntry (players_of old) right
-      → IfOk made (λ line. line.turns ≡ turns)
-      → IfOk made (λ _. AreSides (entry_automaton (players_of mid) left.sheet) left.noise (entry_automaton (players_of mid) right.sheet) right.noise)
-      → IfOk made (IsLineOf (entry_automaton (players_of mid) left.sheet) left.noise (entry_automaton (players_of mid) right.sheet) right.noise game turns)
-      → IfOk made (IsRightLine (players_of old) game 0 left right)
-  right_line_if true_of left right game turns (Ok line) left_is right_is turns_are sides is = right_line true_of left right game turns line left_is right_is turns_are sides is
-  right_line_if true_of left right game turns (Err error) left_is right_is turns_are sides is = tt
+  pub made_right : (game : Payoffs) (offset : ℕ) (left right : Entrant) (line made : MatchLine) → made ≡ lowered offset line
+      → IsRightLine (players_of old) game offset left right (lowered offset line) → IsRightLine (players_of old) game offset left right made
+  made_right game offset left right line made same is = subst (IsRightLine (players_of old) game offset left right) (sym same) is
+
+  -- what was asked behind questions that advance nobody
+  module _ (still : SameTurns old mid) where
+    same_turns : bench_turns mid ≡ bench_turns old
+    same_turns = rw (still.left, still.right) refl
+
+    pub asked_before : (new : BenchState) (left right : Entrant) (turns : ℕ)
+        → IsAsked (entry_automaton (players_of mid) left.sheet) left.noise (entry_automaton (players_of mid) right.sheet) right.noise turns (bench_turns mid) (bench_turns new)
+        → EntryAskedOn old new left right turns
+    asked_before new left right turns asked =
+        let P : Turns → Type 0 = λ t.
+            IsAsked (entry_automaton (players_of old) left.sheet) left.noise (entry_automaton (players_of old) right.sheet) right.noise turns t (bench_turns new) in
+        subst P same_turns (before left.sheet right.sheet (λ a b. IsAsked a left.noise b right.noise turns (bench_turns mid) (bench_turns new)) asked)
+
+    pub most_before : (new : BenchState) (left right : Entrant)
+        → AtMostTurns (most_advances (entry_automaton (players_of mid) left.sheet) (entry_automaton (players_of mid) right.sheet)) (bench_turns mid) (bench_turns new)
+        → EntryAtMostOn old new left right
+    most_before new left right most =
+        let P : Turns → Type 0 = λ t.
+            AtMostTurns (most_advances (entry_automaton (players_of old) left.sheet) (entry_automaton (players_of old) right.sheet)) t (bench_turns new) in
+        subst P same_turns (before left.sheet right.sheet (λ a b. AtMostTurns (most_advances a b) (bench_turns mid) (bench_turns new)) most)
+
+-- ---- ranges
+
+low_less : (units : ℕ) (span : Ends) → IsScoreSpan span → neg_ℤ (pos units) ≤ℤ (span.lo -ℤ pos units)
+low_less units span is = omega (arith, ints, is.low)
+
+ordered_less : (units : ℕ) (span : Ends) → IsScoreSpan span → (span.lo -ℤ pos units) ≤ℤ (span.hi -ℤ pos units)
+ordered_less units span is = omega (arith, ints, is.ordered)
+
+high_less : (units : ℕ) (span : Ends) → IsScoreSpan span → (span.hi -ℤ pos units) ≤ℤ pos (10 ^ 30)
+high_less units span is = omega (arith, ints, is.high)
+
+score_less : (offset n : ℕ) (span : Ends) → IsScoreSpan span → IsScoreLess offset n (spans.lowered (offset * n * score_units) span)
+score_less offset n span is = record {
+  low = low_less (offset * n * score_units) span is;
+  ordered = ordered_less (offset * n * score_units) span is;
+  high = high_less (offset * n * score_units) span is;
+}
+
+-- a line in range is so where it is lowered
+pub in_range_less : (offset n : ℕ) (line : MatchLine) → line.turns ≡ n → IsInRange n line → IsInRangeLess offset n (lowered offset line)
+in_range_less offset n line turns is =
+    let P : Ends → ℕ → Type 0 = λ span t. IsScoreLess offset n (spans.lowered (offset * t * score_units) span) in
+    record {
+      left = subst (P line.left_score) (sym turns) (score_less offset n line.left_score is.left);
+      right = subst (P line.right_score) (sym turns) (score_less offset n line.right_score is.right);
+      counted = is.counted;
+    }
+
+-- of a line that was made so
+pub made_in_range : (offset n : ℕ) (line made : MatchLine) → made ≡ lowered offset line → line.turns ≡ n → IsInRange n line → IsInRangeLess offset n made
+made_in_range offset n line made same turns is = subst (IsInRangeLess offset n) (sym same) (in_range_less offset n line turns is)
+
+-- it can be lowered
+pub is_raised : (n : ℕ) (line : MatchLine) → line.turns ≡ n → n ≤ 10 ^ 12 → IsInRange n line → IsRaised line
+is_raised n line turns few is = record { scores = record { left = is.left; right = is.right }; turns = omega (arith, turns, few) }
 
 -- ---- a tournament
 
@@ -122,37 +182,68 @@ most_entrants old new contestants pairs most =
     as_entrants (players_of old) contestants (λ ss. AtMostTurns (most_for ss pairs) (bench_turns old) (bench_turns new)) most
 
 -- the lines are right, and so are the entries that are made of them
-pub true_totals : EntriesAreTrue → (players : List Lasting) (contestants : List Contestant) (game : Payoffs) (turns : ℕ) (pairs : List (ℕ × ℕ)) (lines : List MatchLine)
+pub true_totals : EntriesAreTrue → (players : List Lasting) (contestants : List Contestant) (game : Payoffs) (offset turns : ℕ) (pairs : List (ℕ × ℕ)) (lines : List MatchLine)
     → AreEntries players (entrants_of contestants) → ArePairs (length (entrants_of contestants)) pairs → AreLines (strategies_of players contestants) game turns pairs lines
-    → IsTrueByRule players game turns (entrants_of contestants) pairs lines
-true_totals true_of players contestants game turns pairs lines are are_pairs made =
-    true_of.tournament players game turns (entrants_of contestants) pairs lines are.each are_pairs
+    → IsTrueByRule players game offset turns (entrants_of contestants) pairs (map (lowered offset) lines)
+true_totals true_of players contestants game offset turns pairs lines are are_pairs made =
+    true_of.tournament players game offset turns (entrants_of contestants) pairs lines are.each are_pairs
     (as_entrants players contestants (λ ss. AreLines ss game turns pairs lines) made)
 
-pub right_entries : {E : Type 0} → EntriesAreTrue → (players : List Lasting) (contestants : List Contestant) (game : Payoffs) (turns : ℕ) (pairs : List (ℕ × ℕ)) (made_of : Result Totals E)
-    → AreEntries players (entrants_of contestants) → ArePairs (length (entrants_of contestants)) pairs
-    → IfOk made_of (λ totals. AreLines (strategies_of players contestants) game turns pairs totals.matches)
-    → IfOk made_of (λ totals. totals.entries ≡ entries_of (length contestants) totals.matches)
-    → IfOk made_of (λ totals. AreRightEntries (totals_by_rule players game 0 turns (entrants_of contestants) pairs) (length (entrants_of contestants)) totals.entries)
-right_entries true_of players contestants game turns pairs (Err error) are are_pairs made entries = tt
-right_entries true_of players contestants game turns pairs (Ok totals) are are_pairs made entries =
-    let P : List EntryLine → Type 0 = λ es. AreRightEntries (totals_by_rule players game 0 turns (entrants_of contestants) pairs) (length (entrants_of contestants)) es in
-    subst P (sym (entries ∙ ap (λ n. entries_of n totals.matches) (many_contestants players contestants)))
-    (true_totals true_of players contestants game turns pairs totals.matches are are_pairs made).entries_right
+-- entries of as many as there are contestants
+pub of_entrants : (contestants : List Contestant) (results : Totals) → results.entries ≡ entries_of (length contestants) results.matches
+    → results.entries ≡ entries_of (length (entrants_of contestants)) results.matches
+of_entrants contestants results entries = entries ∙ ap (λ n. entries_of n results.matches) (sym (length-map contestants entrant_of))
+
+-- what holds whatever the answer
+pub whatever : {T E : Type 0} (made : Result T E) (P : Type 0) → P → IfOk made (λ _. P)
+whatever (Ok value) P here = here
+whatever (Err error) P here = tt
+
+-- what is told of lowered lines and of the entries that are made of them
+pub right_lines : {E : Type 0} (offset : ℕ) (raised : List MatchLine) (P : List MatchLine → Type 0) (made : Result Totals E)
+    → IfOk made (λ totals. totals.matches ≡ map (lowered offset) raised) → P (map (lowered offset) raised) → IfOk made (λ totals. P totals.matches)
+right_lines offset raised P (Ok totals) same here = subst P (sym same) here
+right_lines offset raised P (Err error) same here = tt
+
+pub right_entries : {E : Type 0} (offset count : ℕ) (raised : List MatchLine) (P : List EntryLine → Type 0) (made : Result Totals E)
+    → IfOk made (λ totals. totals.matches ≡ map (lowered offset) raised) → IfOk made (λ totals. totals.entries ≡ entries_of count totals.matches)
+    → P (entries_of count (map (lowered offset) raised)) → IfOk made (λ totals. P totals.entries)
+right_entries offset count raised P (Ok totals) same entries here = subst P (sym (entries ∙ ap (entries_of count) same)) here
+right_entries offset count raised P (Err error) same entries here = tt
 
 pub few_turns_of : (players right : List Lasting) → SidesFit players right → (contestants : List Contestant) (turns : ℕ) (pairs : List (ℕ × ℕ))
     → All (AreFewTurns (entrant_strategies players (entrants_of contestants)) turns) pairs → All (AreFewTurns (strategies_of players contestants) turns) pairs
 few_turns_of players right fits contestants turns pairs few =
     let P : List Strategy → Type 0 = λ ss. All (AreFewTurns ss turns) pairs in subst P (sym (same_strategies players contestants)) few
 
--- the scores are in range
-pub all_in_range : LinesHold → (strategies others : List Strategy) (game : Payoffs) (turns : ℕ) (pairs : List (ℕ × ℕ)) (lines : List MatchLine) → IsGame game
-    → All (AreFewTurns others turns) pairs → AreLines strategies game turns pairs lines → All (IsInRange turns) lines
-all_in_range law strategies others game turns pairs lines valid few made k d inside =
-    let place : MatchLine → ℕ × ℕ = λ line. (line.left, line.right) in
-    let as_many : length lines ≡ length pairs = sym (length-map lines place) ∙ ap length made.places in
-    let is = made.each k d inside in
-    law.range _ _ _ _ game turns (get_or lines k d) is.sides valid (short_turns _ _ turns (few k (0, 0) (omega (arith, inside, as_many)))) is.is
+-- the turns of each match, and its scores, are in range
+module _ (law : LinesHold) (strategies others : List Strategy) (game : Payoffs) (turns : ℕ) (pairs : List (ℕ × ℕ)) (lines : List MatchLine) (valid : IsGame game)
+    (few : All (AreFewTurns others turns) pairs) (made : AreLines strategies game turns pairs lines) where
+  few_at : (k : ℕ) → k < length lines → turns ≤ 10 ^ 12
+  few_at k inside =
+      let place : MatchLine → ℕ × ℕ = λ line. (line.left, line.right) in
+      let as_many : length lines ≡ length pairs = sym (length-map lines place) ∙ ap length made.places in
+      short_turns _ _ turns (few k (0, 0) (omega (arith, inside, as_many)))
+
+  range_at : (k : ℕ) (d : MatchLine) → k < length lines → IsInRange turns (get_or lines k d)
+  range_at k d inside = let is = made.each k d inside in law.range _ _ _ _ game turns (get_or lines k d) is.sides valid (few_at k inside) is.is
+
+  pub all_in_range : (offset : ℕ) → All (IsInRangeLess offset turns) (map (lowered offset) lines)
+  all_in_range offset =
+      All-map (IsInRangeLess offset turns) (lowered offset) lines
+      (λ k d inside. in_range_less offset turns (get_or lines k d) (made.each k d inside).turns (range_at k d inside))
+
+  pub all_raised : All IsRaised lines
+  all_raised k d inside = is_raised turns (get_or lines k d) (made.each k d inside).turns (few_at k inside) (range_at k d inside)
+
+-- the results can be lowered
+pub can_be_lowered : (count : ℕ) (pairs : List (ℕ × ℕ)) (results : Totals) → count ≤ 64 → ArePairs count pairs → pairs_of results.matches ≡ pairs
+    → results.entries ≡ entries_of count results.matches → All IsRaised results.matches → CanBeLowered results
+can_be_lowered count pairs results few are places entries raised = record {
+  few = lines_few count pairs results.matches few are places;
+  few_entries = omega (arith, few, ap length entries, length-map-range_with_len (entry_of count results.matches) 0 count);
+  raised = raised;
+}
 
 -- ---- a grid
 

@@ -1,10 +1,9 @@
 -- Lines that are lowered by an offset.
-use Rattle.std.proofs.Common.{◌≡◌, ℕ, ◌+◌, ◌*◌, ◌^◌, ◌≤◌, List, [], ◌∷◌, length, map, get_or, Option, Some, None, ℤ, pos, neg_ℤ, ◌-ℤ◌, ◌*ℤ◌, sym, ◌∙◌, ap, subst, arith}
+use Rattle.std.proofs.Common.{◌≡◌, ℕ, ◌+◌, ◌*◌, ◌^◌, ◌≤◌, List, [], ◌∷◌, length, map, get_or, Option, Some, None, ℤ, pos, neg_ℤ, ◌-ℤ◌, ◌*ℤ◌, refl, sym, ◌∙◌, ap, subst, arith}
 use Rattle.std.specs.List.{All, range_with_len}
 use Rattle.std.proofs.lemmas.Int.{ints}
 use Rattle.std.proofs.lemmas.List.Elements.{All-map}
 use Rattle.std.proofs.lemmas.List.FromFn.{length-map-range_with_len}
-use Rattle.std.proofs.Math.IntN.{pos-*ℤ-pos}
 use Rattle.history_model.specs.Automaton.{Automaton}
 use Rattle.history_model.specs.Expectation.{player, quotient, expectation, expected_points, AutomataAreWeighed, OffsetLowers}
 use Rattle.history_model.specs.Game.{Payoffs, IsGame, least, most}
@@ -24,7 +23,8 @@ use Rattle.result_lines.specs.Totals.{entries_of, entry_of, total_of, totals_of}
 use Rattle.round_robin.specs.Contest.{Strategy, ArePairs, strategy_at}
 use Rattle.round_robin.specs.Laws.{AreSides, LinesHold}
 use Rattle.round_robin.specs.Line.{IsExpected, IsScored, IsLineOf}
-use Rattle.round_robin.specs.Lowering.{AreLoweredLines, IsLoweredLineBetween, IsExpectedLess, IsScoredLess, HoldsLess, LinesAreLowered, LoweredTournamentsAreTrue, TournamentsAreLowered, expects_less, units_less}
+use Rattle.round_robin.specs.Lowering.{AreLoweredLines, IsLoweredLineBetween, IsExpectedLess, IsScoredLess, HoldsLess, LinesAreLowered, LoweredTournamentsAreTrue, TournamentsAreLowered, expects_less}
+use Rattle.sheet_rules.specs.RightLine.{units_paid}
 use Rattle.round_robin.specs.Totals.{AreLines}
 use Rattle.round_robin.specs.Truth.{HoldsExpected, RanksAreTrue, TotalsHoldTrueTotals, true_total, true_totals}
 use Rattle.round_robin.proofs.Counting.{lines_few}
@@ -66,10 +66,8 @@ sharp_less units points span x d h =
     }
 
 -- whole points as units, less those of the offset
-units_are : (offset n points : ℕ) → pos (points * score_units) -ℤ pos (offset * n * score_units) ≡ units_less offset n points
-units_are offset n points =
-    let spread = +ℤ-*ℤ (pos points) (neg_ℤ (pos (offset * n))) (pos score_units) in
-    omega (arith, ints, spread, pos-*ℤ-pos points score_units, neg_times (offset * n) score_units)
+units_are : (offset n points : ℕ) → pos (points * score_units) -ℤ pos (offset * n * score_units) ≡ units_paid offset n points
+units_are offset n points = refl
 
 -- what a side expects, lowered
 span_less : spans.SpansAreLowered → (a : Automaton) (na : FlipRate) (b : Automaton) (nb : FlipRate) (game : Payoffs) (offset n : ℕ) (span : Ends)
@@ -106,7 +104,7 @@ hold_less law a na b nb game offset n turns span same less h =
 
 -- a point, lowered
 point_less : (offset n turns points : ℕ) (span : Ends) → turns ≡ n → span ≡ point (pos (points * score_units))
-    → spans.lowered (offset * turns * score_units) span ≡ point (units_less offset n points)
+    → spans.lowered (offset * turns * score_units) span ≡ point (units_paid offset n points)
 point_less offset n turns points span same is =
     ap (λ t. spans.lowered (offset * t * score_units) span) same
     ∙ ap (λ s. spans.lowered (offset * n * score_units) s) is

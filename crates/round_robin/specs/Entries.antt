@@ -1,15 +1,17 @@
 -- Matches and tournaments of entrants, by the rules of their sheets.
-use Rattle.std.specs.Prelude.{ℕ, ◌≡◌, ◌≤◌, ◌<◌, All, List, length, slice_index_or}
+use Rattle.std.specs.Prelude.{ℕ, ◌≡◌, ◌*◌, ◌≤◌, ◌<◌, All, List, length, map, slice_index_or, neg_ℤ, pos, ◌≤ℤ◌, ◌^◌, IfSome}
 use Rattle.history_model.specs.Automaton.{Automaton, IsAutomaton}
 use Rattle.history_model.specs.Expectation.{ChooseAlike, player}
 use Rattle.history_model.specs.Game.{Payoffs}
 use Rattle.player_core.specs.State.{BenchState, Lasting, players_of}
 use Rattle.player_core.specs.Sheet.{IsSheet}
 use Rattle.match_play.specs.Known.{IsKnown}
-use Rattle.fixed_span.specs.Span.{Fraction, Holds, score_units}
+use Rattle.history_model.specs.Tally.{total}
+use Rattle.fixed_span.specs.Span.{Ends, Fraction, Holds, score_units}
 use Rattle.result_lines.specs.declared.line.MatchLine.{MatchLine}
 use Rattle.result_lines.specs.declared.ranking.Rank.TheVariants.{At}
 use Rattle.result_lines.specs.declared.tables.EntryLine.{EntryLine}
+use Rattle.result_lines.specs.Lowered.{lowered}
 use Rattle.result_lines.specs.Totals.{entries_of, pairs_of}
 use Rattle.sheet_rules.specs.Entrants.{Entrant, automaton_of_entrant, entrant_at, expects_at, rule_player}
 use Rattle.sheet_rules.specs.RightLine.{IsRightLine}
@@ -60,6 +62,18 @@ AreRightEntries totals count entries =
 abbrev pub totals_by_rule : List Lasting → Payoffs → ℕ → ℕ → List Entrant → List (ℕ × ℕ) → List Fraction
 totals_by_rule players game offset turns entrants pairs = true_totals (expects_at players game offset turns entrants) pairs (length entrants)
 
+-- the two ends of a score of n turns where each payoff is less by an offset
+pub record IsScoreLess (offset n : ℕ) (span : Ends) : Type 0 where
+  pub low : neg_ℤ (pos (offset * n * score_units)) ≤ℤ span.lo
+  pub ordered : span.lo ≤ℤ span.hi
+  pub high : span.hi ≤ℤ pos (10 ^ 30)
+
+-- the scores of such a match are in range, and its counts make up the turns
+pub record IsInRangeLess (offset n : ℕ) (line : MatchLine) : Type 0 where
+  pub left : IsScoreLess offset n line.left_score
+  pub right : IsScoreLess offset n line.right_score
+  pub counted : IfSome line.tally (λ tally. total tally ≡ n)
+
 -- ---- what they are asked
 
 -- the players of the bench were asked for the match of two entrants
@@ -91,16 +105,16 @@ pub record IsGridOf (players : List Lasting) (entrant : Entrant) (grid : Automat
 -- ---- laws
 
 -- the lines of matches are right, and the totals and ranks that they give are true, all by rule
-pub record IsTrueByRule (players : List Lasting) (game : Payoffs) (turns : ℕ) (entrants : List Entrant) (pairs : List (ℕ × ℕ)) (lines : List MatchLine) : Type 0 where
-  pub lines_right : AreRightLines players game 0 turns entrants pairs lines
-  pub entries_right : AreRightEntries (totals_by_rule players game 0 turns entrants pairs) (length entrants) (entries_of (length entrants) lines)
+pub record IsTrueByRule (players : List Lasting) (game : Payoffs) (offset turns : ℕ) (entrants : List Entrant) (pairs : List (ℕ × ℕ)) (lines : List MatchLine) : Type 0 where
+  pub lines_right : AreRightLines players game offset turns entrants pairs lines
+  pub entries_right : AreRightEntries (totals_by_rule players game offset turns entrants pairs) (length entrants) (entries_of (length entrants) lines)
 
--- the laws: a line between what two entrants play is right; and what is told of a tournament is true
+-- the laws: a line between what two entrants play is right where it is lowered by an offset; and what is told of a tournament is true
 pub record EntriesAreTrue : Type 0 where
-  pub line : (players : List Lasting) (left right : Entrant) (game : Payoffs) (line : MatchLine) → IsSheet left.sheet → IsSheet right.sheet
+  pub line : (players : List Lasting) (left right : Entrant) (game : Payoffs) (offset : ℕ) (line : MatchLine) → IsSheet left.sheet → IsSheet right.sheet
       → AreSides (automaton_of_entrant players left) left.noise (automaton_of_entrant players right) right.noise
       → IsLineOf (automaton_of_entrant players left) left.noise (automaton_of_entrant players right) right.noise game line.turns line
-      → IsRightLine players game 0 left right line
-  pub tournament : (players : List Lasting) (game : Payoffs) (turns : ℕ) (entrants : List Entrant) (pairs : List (ℕ × ℕ)) (lines : List MatchLine)
+      → IsRightLine players game offset left right (lowered offset line)
+  pub tournament : (players : List Lasting) (game : Payoffs) (offset turns : ℕ) (entrants : List Entrant) (pairs : List (ℕ × ℕ)) (lines : List MatchLine)
       → All (IsEntry players) entrants → ArePairs (length entrants) pairs → AreLines (entrant_strategies players entrants) game turns pairs lines
-      → IsTrueByRule players game turns entrants pairs lines
+      → IsTrueByRule players game offset turns entrants pairs (map (lowered offset) lines)

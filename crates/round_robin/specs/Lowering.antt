@@ -1,5 +1,5 @@
 -- The lines of a game whose payoffs are each less by an offset: what they hold, and what totals of them hold.
-use Rattle.std.specs.Prelude.{ℕ, ◌≡◌, ◌↔◌, ◌≤◌, ◌<◌, ◌*◌, ◌^◌, ℤ, pos, ◌-ℤ◌, ◌*ℤ◌, ◌≤ℤ◌, All, List, length, map, Option, Some, None}
+use Rattle.std.specs.Prelude.{ℕ, ◌≡◌, ◌↔◌, ◌≤◌, ◌<◌, ◌*◌, ◌^◌, pos, ◌-ℤ◌, ◌≤ℤ◌, All, List, length, map, Option, Some, None}
 use Rattle.history_model.specs.Automaton.{Automaton}
 use Rattle.history_model.specs.Expectation.{expectation, player, quotient}
 use Rattle.history_model.specs.Game.{Payoffs, IsGame, least, most}
@@ -16,6 +16,7 @@ use Rattle.result_lines.specs.declared.tables.Totals.{Totals}
 use Rattle.result_lines.specs.Lowered.{CanBeLowered, lowered}
 use Rattle.result_lines.specs.Ranks.{rank_of}
 use Rattle.result_lines.specs.Totals.{entries_of, pairs_of, total_of, totals_of}
+use Rattle.sheet_rules.specs.RightLine.{units_paid}
 use Rattle.round_robin.specs.Contest.{Strategy, ArePairs, strategy_at}
 use Rattle.round_robin.specs.Laws.{AreSides}
 use Rattle.round_robin.specs.Line.{IsLineOf}
@@ -24,14 +25,10 @@ use Rattle.round_robin.specs.Truth.{HoldsExpected, true_rank, true_total, true_t
 
 -- ---- the line of a match
 
--- whole points less the offset for each of n turns, in units
-abbrev pub units_less : ℕ → ℕ → ℕ → ℤ
-units_less offset n points = (pos points -ℤ pos (offset * n)) *ℤ pos score_units
-
 -- the ends lie between what the least and what the greatest payoff give in n turns, less the offset for each
 pub record IsPayableLess (game : Payoffs) (offset n : ℕ) (span : Ends) : Type 0 where
-  pub low : units_less offset n (n * least game) ≤ℤ span.lo
-  pub high : span.hi ≤ℤ units_less offset n (n * most game)
+  pub low : units_paid offset n (n * least game) ≤ℤ span.lo
+  pub high : span.hi ≤ℤ units_paid offset n (n * most game)
 
 -- the span of what a expects against b in n turns where each payoff is less by the offset: it holds the exact fraction, and is narrow
 pub record IsExpectedLess (a : Automaton) (na : FlipRate) (b : Automaton) (nb : FlipRate) (game : Payoffs) (offset n : ℕ) (span : Ends) : Type 0 where
@@ -45,8 +42,8 @@ pub record IsExpectedLess (a : Automaton) (na : FlipRate) (b : Automaton) (nb : 
 pub record IsPlayedLess (a : Automaton) (na : FlipRate) (b : Automaton) (nb : FlipRate) (game : Payoffs) (offset n : ℕ) (line : MatchLine) (tally : Tally) : Type 0 where
   pub sure : IsSureMatch a na b nb
   pub plays : tally ≡ counts (match_path a b n)
-  pub left : line.left_score ≡ point (units_less offset n (left_points game tally))
-  pub right : line.right_score ≡ point (units_less offset n (right_points game tally))
+  pub left : line.left_score ≡ point (units_paid offset n (left_points game tally))
+  pub right : line.right_score ≡ point (units_paid offset n (right_points game tally))
 
 -- a match that isn't sure: what both expect
 pub record IsMixedLess (a : Automaton) (na : FlipRate) (b : Automaton) (nb : FlipRate) (game : Payoffs) (offset n : ℕ) (line : MatchLine) : Type 0 where

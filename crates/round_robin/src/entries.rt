@@ -9,8 +9,7 @@ ghost use Rattle.result_lines.specs.Totals.{entries_of};
 ghost use Rattle.sheet_rules.specs.Entrants.{IsSurePair, automaton_of_entrant, entrant_of, entrants_of};
 ghost use Rattle.sheet_rules.specs.RightLine.{IsRightLine};
 ghost use Rattle.round_robin.specs.Contest.{AreFewTurns, ArePairs, IsShort, IsSureStrategy, entrant_strategies, strategy_of_entrant};
-ghost use Rattle.round_robin.specs.Entries.{AreEntries, AreRightEntries, AreRightLines, EntriesAskedOn, EntriesAtMostOn, EntryAskedOn, EntryAtMostOn, IsEntry, IsGridOf, totals_by_rule};
-ghost use Rattle.round_robin.specs.Laws.{IsInRange};
+ghost use Rattle.round_robin.specs.Entries.{AreEntries, AreRightEntries, AreRightLines, EntriesAskedOn, EntriesAtMostOn, EntryAskedOn, EntryAtMostOn, IsEntry, IsGridOf, IsInRangeLess, totals_by_rule};
 
 use crate::laws::{entries_are_true, lines_hold};
 use crate::{Contestant, Entrant, Totals, match_line, totals};
@@ -51,8 +50,8 @@ fn are_sure(bench: &mut Bench, left: &Contestant<'_>, right: &Contestant<'_>) ->
 }
 
 /// The line of a match between two entrants: by the rules of their sheets it is right. A sure match has 1 to
-/// 10^12 turns, any other 1 to 10,000; which it is, the bench tells. Places are 0 and 1, scores from 0 to 10^30
-/// units. No side makes more advances than the match takes at most, and the bench goes on fitting with the same
+/// 10^12 turns, any other 1 to 10,000; which it is, the bench tells. Each payoff counts the offset less, at most
+/// 1,000,000. Places are 0 and 1, scores at most 10^30 units. No side makes more advances than the match takes at most, and the bench goes on fitting with the same
 /// plugs, also without memory.
 ///
 /// # Errors
@@ -64,6 +63,7 @@ pub fn entry_line(
     left: &Contestant<'_>,
     right: &Contestant<'_>,
     game: &Game,
+    offset: u32,
     turns: u64,
 ) -> Result<MatchLine, NoMemory>
     requires fits { Fits (⟦<Bench as Seen>⟧.view bench.old) }
@@ -71,9 +71,10 @@ pub fn entry_line(
     requires right { IsEntry (players_of (⟦<Bench as Seen>⟧.view bench.old)) (entrant_of right.now) }
     requires some_turns { 1 ≤ turns }
     requires few_turns { IsShort (strategy_of_entrant (players_of (⟦<Bench as Seen>⟧.view bench.old)) (entrant_of left.now)) (strategy_of_entrant (players_of (⟦<Bench as Seen>⟧.view bench.old)) (entrant_of right.now)) turns }
-    ensures right { IfOk result (IsRightLine (players_of (⟦<Bench as Seen>⟧.view bench.old)) game.now 0 (entrant_of left.now) (entrant_of right.now)) }
+    requires small { offset ≤ 1000000 }
+    ensures right { IfOk result (IsRightLine (players_of (⟦<Bench as Seen>⟧.view bench.old)) game.now offset (entrant_of left.now) (entrant_of right.now)) }
     ensures turns { IfOk result (λ line. line.turns ≡ turns) }
-    ensures range { IfOk result (IsInRange turns) }
+    ensures range { IfOk result (IsInRangeLess offset turns) }
     ensures asked { IfOk result (λ _. EntryAskedOn (⟦<Bench as Seen>⟧.view bench.old) (⟦<Bench as Seen>⟧.view bench.new) (entrant_of left.now) (entrant_of right.now) turns) }
     ensures most { EntryAtMostOn (⟦<Bench as Seen>⟧.view bench.old) (⟦<Bench as Seen>⟧.view bench.new) (entrant_of left.now) (entrant_of right.now) }
     ensures kept { KeepsBench (⟦<Bench as Seen>⟧.view bench.old) (⟦<Bench as Seen>⟧.view bench.new) }
@@ -93,7 +94,7 @@ pub fn entry_line(
         sheet: right.sheet,
         noise: *right.noise,
     };
-    match_line(
+    let line = match_line(
         alloc,
         &mut trail,
         bench,
@@ -102,12 +103,13 @@ pub fn entry_line(
         game,
         turns,
         sure,
-    )
+    )?;
+    Ok(line.lowered(offset))
 }
 
 /// The matches of the pairs of a tournament of 1 to 64 entrants, and what these make of them, as `totals` has
-/// them: by the rules of their sheets each line is right for its pair, each total holds the true total, and each
-/// rank that is told is the true rank. No side makes more advances than all matches take at most, and the bench
+/// them, where each payoff counts the offset less, at most 1,000,000: by the rules of their sheets each line is
+/// right for its pair, each total holds the true total, and each rank that is told is the true rank. No side makes more advances than all matches take at most, and the bench
 /// goes on fitting with the same plugs, also without memory.
 ///
 /// # Errors
@@ -119,6 +121,7 @@ pub fn entry_totals(
     entrants: &[Contestant<'_>],
     pairs: &[(u32, u32)],
     game: &Game,
+    offset: u32,
     turns: u64,
 ) -> Result<Totals, NoMemory>
     requires fits { Fits (⟦<Bench as Seen>⟧.view bench.old) }
@@ -126,9 +129,10 @@ pub fn entry_totals(
     requires pairs { ArePairs (length (entrants_of entrants.now)) pairs.now }
     requires some_turns { 1 ≤ turns }
     requires few_turns { All (AreFewTurns (entrant_strategies (players_of (⟦<Bench as Seen>⟧.view bench.old)) (entrants_of entrants.now)) turns) pairs.now }
-    ensures lines_right { IfOk result (λ totals. AreRightLines (players_of (⟦<Bench as Seen>⟧.view bench.old)) game.now 0 turns (entrants_of entrants.now) pairs.now totals.matches) }
-    ensures range { IfOk result (λ totals. All (IsInRange turns) totals.matches) }
-    ensures entries_right { IfOk result (λ totals. AreRightEntries (totals_by_rule (players_of (⟦<Bench as Seen>⟧.view bench.old)) game.now 0 turns (entrants_of entrants.now) pairs.now) (length (entrants_of entrants.now)) totals.entries) }
+    requires small { offset ≤ 1000000 }
+    ensures lines_right { IfOk result (λ totals. AreRightLines (players_of (⟦<Bench as Seen>⟧.view bench.old)) game.now offset turns (entrants_of entrants.now) pairs.now totals.matches) }
+    ensures range { IfOk result (λ totals. All (IsInRangeLess offset turns) totals.matches) }
+    ensures entries_right { IfOk result (λ totals. AreRightEntries (totals_by_rule (players_of (⟦<Bench as Seen>⟧.view bench.old)) game.now offset turns (entrants_of entrants.now) pairs.now) (length (entrants_of entrants.now)) totals.entries) }
     ensures entries { IfOk result (λ totals. totals.entries ≡ entries_of (length (entrants_of entrants.now)) totals.matches) }
     ensures asked { IfOk result (λ _. EntriesAskedOn (⟦<Bench as Seen>⟧.view bench.old) (⟦<Bench as Seen>⟧.view bench.new) (entrants_of entrants.now) turns pairs.now) }
     ensures most { EntriesAtMostOn (⟦<Bench as Seen>⟧.view bench.old) (⟦<Bench as Seen>⟧.view bench.new) (entrants_of entrants.now) pairs.now }
@@ -138,7 +142,8 @@ pub fn entry_totals(
     lines_hold();
     // The payoffs are in range by their type.
     let _payoffs = game.unsigned();
-    totals(alloc, bench, entrants, pairs, game, turns)
+    let raised = totals(alloc, bench, entrants, pairs, game, turns)?;
+    raised.lowered(alloc, offset)
 }
 
 /// The grid of an entrant: what the left side's player that takes its sheet plays, read by four advances for

@@ -3,6 +3,9 @@ ghost use Rattle.round_robin.specs.Entries.{EntriesAreTrue};
 ghost use Rattle.round_robin.specs.Laws.{LinesHold};
 ghost use Rattle.round_robin.specs.Truth.{RanksAreTrue, SumsAreHeld, TotalsHoldTrueTotals, TournamentsAreTrue};
 
+use crate::lowering::{
+    lines_are_lowered, lowered_tournaments_are_true, tournaments_are_lowered,
+};
 use fixed_span::verdicts_are_true;
 use history_model::{
     automata_are_weighed, counts_are_paid, histories_agree_with_rows, offset_lowers,
@@ -45,12 +48,14 @@ pub fn tournaments_are_true()
     ranks_are_true();
 }
 
-/// A line between what two entrants play is right by the rules of their sheets. So are all lines of a
-/// tournament, whose totals hold the true totals by these rules, and whose ranks are the true ranks where
-/// they aren't undecided.
+/// A line between what two entrants play, lowered by an offset, is right by the rules of their sheets. So are
+/// all lines of a tournament, whose totals hold the true totals by these rules, and whose ranks are the true
+/// ranks where they aren't undecided.
 pub fn entries_are_true()
     ensures { EntriesAreTrue }
 {
     entrants_follow_their_rules();
-    tournaments_are_true();
+    lines_are_lowered();
+    lowered_tournaments_are_true();
+    tournaments_are_lowered();
 }
