@@ -69,8 +69,8 @@ pub record AreAsWide (line other : MatchLine) : Type 0 where
   pub left : (width : ℕ) → IsWithin width line.left_score ↔ IsWithin width other.left_score
   pub right : (width : ℕ) → IsWithin width line.right_score ↔ IsWithin width other.right_score
 
--- the laws: an offset lowers what a history pays, and what is expected; so the line of a match that is lowered is the line of the game with these payoffs, and
--- holds what both expect there; it is as wide as it was
+-- the laws: an offset lowers what a history pays, and what is expected; so the line of a match that is lowered is the line of the
+-- game with these payoffs, and holds what both expect there; it is as wide as it was
 pub record LinesAreLowered : Type 0 where
   pub paid : (game : Payoffs) (offset : ℕ) (history : History) → score game offset history ≡ pos (points game history) -ℤ pos (offset * length history)
   pub expected : (a : Automaton) (na : FlipRate) (b : Automaton) (nb : FlipRate) (game : Payoffs) (offset n : ℕ) → AreSides a na b nb
