@@ -1,9 +1,8 @@
 //! The tables `game` and `noise`.
-ghost use Rattle.std.specs.Prelude.{◌≡◌, ◌≤◌, ◌<◌, ◌/◌, ℤ, pos, negsuc, ◌≤ℤ◌, ◌⊎◌, IfOk, max};
+ghost use Rattle.std.specs.Prelude.{◌≡◌, ◌≤◌, ◌⊎◌, IfOk};
 ghost use Rattle.toml.specs.View.{table_view};
 ghost use Rattle.history_model.specs.Game.{IsGame};
 ghost use Rattle.history_model.specs.Noise.{no_noise};
-ghost use Rattle.lab_keys.specs.Keys.{whole_at, signed_at};
 ghost use Rattle.game_file.specs.GameOf.{usual_game, lowest, payoff_at, payoffs_in, below, needed_offset, raised, IsWithin, AreWithin, game_from, game_at, flip_rate_in, noise_at, entry_flip_rate, game_of, IsOffset};
 
 use history_model::{Game, Noise};

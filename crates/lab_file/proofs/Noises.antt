@@ -1,5 +1,5 @@
 -- Entries of one noise.
-use Rattle.std.proofs.Common.{◌≡◌, ℕ, ◌<◌, List, [], ◌∷◌, ◌++◌, length}
+use Rattle.std.proofs.Common.{◌≡◌, List, [], ◌∷◌, ◌++◌}
 use Rattle.std.proofs.lemmas.List.Elements.{All-push}
 use Rattle.history_model.specs.Noise.{FlipRate}
 use Rattle.lab_file.specs.declared.lab.Entry.{Entry}
