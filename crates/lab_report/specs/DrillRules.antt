@@ -10,7 +10,7 @@ use Rattle.lab_report.specs.declared.state.DrillSoFar.{DrillSoFar}
 use Rattle.lab_report.specs.declared.state.DrillSoFar.TheVariants as drills
 use Rattle.lab_report.specs.declared.state.State.{State}
 use Rattle.lab_report.specs.declared.state.State.TheVariants as states
-use Rattle.lab_report.specs.Names.{place_in, with_name}
+use Rattle.report_names.specs.Names.{place_in, with_name}
 use Rattle.lab_report.specs.Valid.{drill_game}
 
 -- at most 64 machines, which stand between the number and the sum

@@ -14,7 +14,7 @@ use Rattle.lab_report.specs.declared.report.Body.TheVariants as bodies
 use Rattle.lab_report.specs.declared.state.BodySoFar.TheVariants as parts
 use Rattle.lab_report.specs.declared.state.State.{State}
 use Rattle.lab_report.specs.declared.state.State.TheVariants as states
-use Rattle.lab_report.specs.Names.{place_in, with_name}
+use Rattle.report_names.specs.Names.{place_in, with_name}
 
 -- the score is these points
 abbrev pub is_paid : Ends → ℕ → Bool

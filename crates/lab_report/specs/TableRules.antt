@@ -1,6 +1,5 @@
 -- Which line may follow which in the report of a tournament: match lines, then a line for each entry, and then the end.
 use Rattle.std.specs.Prelude.{ℕ, ◌+◌, ◌==◌, ◌&&◌, Bool, true, false, not, nat_lt, nat_le, List, [], ◌∷◌, ◌++◌, length, map, Option, Some, None}
-use Rattle.std.specs.List.{list_any, list_all, range_with_len}
 use Rattle.std.specs.Ordering.{int_eq}
 use Rattle.history_model.specs.Game.{Payoffs}
 use Rattle.history_model.specs.Noise.{FlipRate}
@@ -21,7 +20,8 @@ use Rattle.lab_report.specs.declared.state.State.{State}
 use Rattle.lab_report.specs.declared.state.State.TheVariants as states
 use Rattle.lab_report.specs.declared.table.Table.{Table}
 use Rattle.lab_report.specs.MatchRules.{pays, placed_match, names_with_match}
-use Rattle.lab_report.specs.Names.{place_in, with_name}
+use Rattle.report_names.specs.Names.{place_in, with_name}
+use Rattle.report_names.specs.Places.{is_listed, are_listed}
 
 -- ---- the line of an entry
 
@@ -43,14 +43,6 @@ adds_up matches place x =
     same_ends x.total (total_of place matches) && (x.wins == wins_of place matches && x.undecided == undecided_of place matches)
 
 -- ---- all lines of entries
-
--- one of the entries that have a line
-abbrev pub is_listed : List ℕ → ℕ → Bool
-is_listed who place = list_any (λ other. other == place) who
-
--- each of so many entries has a line
-abbrev pub are_listed : ℕ → List ℕ → Bool
-are_listed count who = list_all (is_listed who) (range_with_len 0 count)
 
 -- the totals that lines show
 abbrev pub totals_in : List EntryLine → List Ends

@@ -17,7 +17,7 @@ use Rattle.report_lines.specs.Texts.{line_text}
 use Rattle.lab_report.specs.declared.report.Body.{Body}
 use Rattle.lab_report.specs.declared.report.Body.TheVariants as bodies
 use Rattle.lab_report.specs.declared.report.Report.{Report}
-use Rattle.lab_report.specs.Names.{name_at}
+use Rattle.report_names.specs.Names.{name_at}
 
 -- what the first line says of a body
 abbrev pub kind_of : Body → Kind

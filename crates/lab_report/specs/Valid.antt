@@ -14,7 +14,7 @@ use Rattle.result_lines.specs.Totals.{total_of, wins_of, undecided_of}
 use Rattle.lab_report.specs.declared.report.Body.{Body}
 use Rattle.lab_report.specs.declared.report.Body.TheVariants as bodies
 use Rattle.lab_report.specs.declared.report.Report.{Report}
-use Rattle.lab_report.specs.Names.{name_at, with_names}
+use Rattle.report_names.specs.Names.{name_at, with_names}
 use Rattle.lab_report.specs.Text.{report_text}
 
 -- a score is shown from 0 to 10^33 units

@@ -1,14 +1,13 @@
 //! What may follow in the report of a drill.
-ghost use Rattle.std.specs.Prelude.{◌≡◌, ◌<◌, ◌-◌, ◌^◌, length, IfOk, OnOk};
-ghost use Rattle.lab_report.specs.DrillRules.{HasDrillRoom, after_drill, drill_allows, with_first};
-ghost use Rattle.lab_report.specs.Names.{with_name};
+ghost use Rattle.std.specs.Prelude.{◌≡◌, IfOk};
+ghost use Rattle.lab_report.specs.DrillRules.{HasDrillRoom, after_drill, drill_allows};
 ghost use Rattle.lab_report.specs.Valid.{drill_game};
 ghost use Rattle.history_model.specs.Noise.{no_noise};
 
 use crate::state::{DrillSoFar, State};
 use crate::{Body, Leaders, Names};
 use history_model::{Game, NoMemory, Noise};
-use report_lines::{Line, ShownFirst};
+use report_lines::Line;
 use std::alloc::Global;
 
 /// The game of every drill.
@@ -43,18 +42,6 @@ pub(crate) fn drill_allows(drill: &DrillSoFar, next: &Line) -> bool
     }
 }
 
-// The machines with one more, whose name comes behind all others where it is new.
-fn with_first(names: &mut Names, first: Leaders, found: &ShownFirst) -> Result<Leaders, NoMemory>
-    requires { length names.old < 2 ^ 32 - 1 }
-    ensures first { IfOk result (λ more. more ≡ with_first names.old first found.now) }
-    ensures names { OnOk result (names.new ≡ with_name names.old found.now.name) }
-{
-    let place = names.place(&found.name)?;
-    let mut items = first.into_vec();
-    items.push((place, found.total))?;
-    Ok(Leaders::from_vec(items))
-}
-
 /// What a line behind those of a drill leaves.
 pub(crate) fn after_drill(
     alloc: Global,
@@ -74,7 +61,8 @@ pub(crate) fn after_drill(
             })
         }
         (DrillSoFar::Numbered { number, first }, Line::First(found)) => {
-            let first = with_first(&mut names, first, &found)?;
+            let place = names.place(&found.name)?;
+            let first = first.with(place, found.total)?;
             Ok(State::InDrill {
                 names,
                 drill: DrillSoFar::Numbered { number, first },

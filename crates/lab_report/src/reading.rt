@@ -1,4 +1,4 @@
-//! Reads reports.
+//! Reads reports, each from its one text.
 ghost use Rattle.std.specs.Prelude.{ℕ, ◌≡◌, ◌-◌, ◌<◌, ◌^◌, false, length, IfOk, IfSome, IfNone};
 ghost use Rattle.texts.specs.Grammar.{pieces, read_on};
 ghost use Rattle.report_lines.specs.Reading.{line_of};
@@ -8,7 +8,7 @@ ghost use Rattle.lab_report.specs.declared.state.State.TheVariants.{Start};
 ghost use Rattle.lab_report.specs.Grammar.{grammar, is_ended};
 ghost use Rattle.lab_report.specs.Read.{Gives, IfBad, IsBadLine, IsFirstVersion, Reading, Refuses, whole};
 ghost use Rattle.lab_report.specs.Text.{report_text};
-ghost use Rattle.lab_report.specs.Valid.{IsValid};
+ghost use Rattle.lab_report.specs.Valid.{IsValid, OneReportAText};
 
 use crate::rules::{after, allows};
 use crate::state::State;
@@ -117,4 +117,13 @@ pub fn read_report(alloc: Global, bytes: &[u8]) -> Result<Report, ReportError>
     reading_is_exact::<State, Line>();
     refusal_is_exact::<State, Line>();
     read_lines(alloc, bytes)
+}
+
+/// The law of texts: two valid reports with one text are equal.
+pub fn one_report_a_text()
+    ensures { OneReportAText }
+{
+    lines_are_exact();
+    reading_is_exact::<State, Line>();
+    refusal_is_exact::<State, Line>();
 }

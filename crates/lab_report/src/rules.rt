@@ -1,7 +1,7 @@
 //! Which line may follow which, and what it leaves.
 ghost use Rattle.std.specs.Prelude.{◌≡◌, true, IfOk};
 ghost use Rattle.report_lines.specs.Texts.{is_line};
-ghost use Rattle.lab_report.specs.Grammar.{body_allows, allows, after_head, after_body, after, HasRoom, StateHasRoom};
+ghost use Rattle.lab_report.specs.Grammar.{allows, after_head, after, StateHasRoom};
 
 use crate::Names;
 use crate::drill_rules::{after_drill, drill_allows};
@@ -9,26 +9,9 @@ use crate::match_rules::{after_match, match_allows};
 use crate::state::{BodySoFar, DrillSoFar, State};
 use crate::table::Table;
 use crate::table_rules::{after_table, table_allows};
-use history_model::{Game, NoMemory, Noise};
+use history_model::NoMemory;
 use report_lines::{Kind, Line};
 use std::alloc::Global;
-
-fn body_allows(
-    alloc: Global,
-    game: &Game,
-    names: &Names,
-    body: &BodySoFar,
-    next: &Line,
-) -> Result<bool, NoMemory>
-    requires line { is_line next.now ≡ true }
-    requires room { HasRoom body.now names.now }
-    ensures { IfOk result (λ allowed. allowed ≡ body_allows game.now names.now body.now next.now) }
-{
-    match body {
-        BodySoFar::Match { line } => Ok(match_allows(game, line, next)),
-        BodySoFar::Tournament { table } => table_allows(alloc, game, names, table, next),
-    }
-}
 
 /// Whether a line may stand behind those that led to the state.
 pub(crate) fn allows(alloc: Global, state: &State, next: &Line) -> Result<bool, NoMemory>
@@ -48,7 +31,10 @@ pub(crate) fn allows(alloc: Global, state: &State, next: &Line) -> Result<bool, 
                 ..
             },
             _,
-        ) => body_allows(alloc, game, names, body, next),
+        ) => match body {
+            BodySoFar::Match { line } => Ok(match_allows(game, line, next)),
+            BodySoFar::Tournament { table } => table_allows(alloc, game, names, table, next),
+        },
         (State::InDrill { drill, .. }, _) => Ok(drill_allows(drill, next)),
         _ => Ok(false),
     }
@@ -71,23 +57,6 @@ fn after_head(alloc: Global, kind: Kind) -> State
             names: Names::new(alloc),
             drill: DrillSoFar::Begun,
         },
-    }
-}
-
-// What a line behind those of a body leaves.
-fn after_body(
-    game: Game,
-    noise: Noise,
-    names: Names,
-    body: BodySoFar,
-    next: Line,
-) -> Result<State, NoMemory>
-    requires { HasRoom body names }
-    ensures { IfOk result (λ state. state ≡ after_body game noise names body next) }
-{
-    match body {
-        BodySoFar::Match { line } => after_match(game, noise, names, line, next),
-        BodySoFar::Tournament { table } => after_table(game, noise, names, table, next),
     }
 }
 
@@ -123,7 +92,10 @@ pub(crate) fn after(alloc: Global, state: State, next: Line) -> Result<State, No
             noise,
             names,
             body,
-        } => after_body(game, noise, names, body, next),
+        } => match body {
+            BodySoFar::Match { line } => after_match(game, noise, names, line, next),
+            BodySoFar::Tournament { table } => after_table(game, noise, names, table, next),
+        },
         State::InDrill { names, drill } => after_drill(alloc, names, drill, next),
         ended => Ok(ended),
     }

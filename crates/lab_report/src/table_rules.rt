@@ -4,14 +4,13 @@ ghost use Rattle.report_lines.specs.Texts.{is_line, is_match};
 ghost use Rattle.result_lines.specs.Totals.{AreSummable, total_of, wins_of, undecided_of};
 ghost use Rattle.result_lines.specs.Ranks.{rank_of};
 ghost use Rattle.lab_report.specs.Room.{HasTableRoom};
-ghost use Rattle.lab_report.specs.Names.{place_in};
-ghost use Rattle.lab_report.specs.TableRules.{rank_read, unnamed, same_ends, adds_up, is_listed, are_listed, totals_in, same_rank, ranked_from, are_ranked, match_fits, entry_fits, is_whole, with_match, with_entry, table_allows, after_table};
+ghost use Rattle.report_names.specs.Names.{place_in};
+ghost use Rattle.lab_report.specs.TableRules.{rank_read, unnamed, same_ends, adds_up, totals_in, same_rank, ranked_from, are_ranked, match_fits, entry_fits, is_whole, with_match, with_entry, table_allows, after_table};
 
-use crate::Body;
-use crate::lists::{Names, place_in};
 use crate::match_rules::{pays, placed_match};
 use crate::state::{BodySoFar, State};
 use crate::table::Table;
+use crate::{Body, Names, place_in};
 use fixed_span::Span;
 use history_model::{Game, NoMemory, Noise};
 use report_lines::{Line, ShownEntry, ShownMatch};
@@ -57,18 +56,6 @@ fn adds_up(matches: &[MatchLine], place: u32, entry: &ShownEntry) -> bool
             && entry.undecided == undecided_of(matches, place))
 }
 
-fn is_listed(who: &[u32], place: u32) -> bool
-    ensures { result ≡ is_listed who.now place }
-{
-    who.contains(&place)
-}
-
-fn are_listed(count: u32, who: &[u32]) -> bool
-    ensures { result ≡ are_listed count who.now }
-{
-    (0..count).all(|place| is_listed(who, place))
-}
-
 fn totals_in(alloc: Global, entries: &[EntryLine]) -> Result<Vec<Span>, NoMemory>
     ensures { IfOk result (λ totals. totals.items ≡ totals_in entries.now) }
 {
@@ -89,15 +76,6 @@ fn same_rank(a: Rank, b: Rank) -> bool
     }
 }
 
-// Whether the rank of a line is the one by all totals, of which its own stands at the place.
-fn is_ranked(totals: &[Span], place: u32, entry: &EntryLine) -> bool
-    requires few { length totals.now ≤ 64 }
-    requires inside { place < length totals.now }
-    ensures { result ≡ same_rank entry.now.rank (rank_of totals.now place) }
-{
-    same_rank(entry.rank, rank_of(totals, place))
-}
-
 fn all_ranked(totals: &[Span], entries: &[EntryLine]) -> bool
     requires few { length totals.now ≤ 64 }
     requires long { length entries.now ≤ length totals.now }
@@ -105,7 +83,7 @@ fn all_ranked(totals: &[Span], entries: &[EntryLine]) -> bool
 {
     let mut place: u32 = 0;
     for entry in entries {
-        if !is_ranked(totals, place, entry) {
+        if !same_rank(entry.rank, rank_of(totals, place)) {
             return false;
         }
         place += 1;
@@ -137,7 +115,7 @@ fn entry_fits(names: &Names, table: &Table, entry: &ShownEntry) -> bool
 {
     let place = place_in(names.as_slice(), &entry.name);
     table.entries.as_slice().len() < 64
-        && !is_listed(table.who.as_slice(), place)
+        && !table.who.has(place)
         && adds_up(table.matches.as_slice(), place, entry)
 }
 
@@ -151,7 +129,7 @@ fn is_whole(alloc: Global, names: &Names, table: &Table) -> Result<bool, NoMemor
         return Ok(false);
     }
     let count = names.as_slice().len() as u32;
-    Ok(are_listed(count, table.who.as_slice()))
+    Ok(table.who.has_all(count))
 }
 
 /// Whether a line may stand behind those of a table.

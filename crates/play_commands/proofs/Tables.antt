@@ -25,7 +25,7 @@ use Rattle.result_lines.specs.Totals.{pairs_of, entry_of, entries_of, total_of, 
 use Rattle.round_robin.specs.Totals.{IsLineBetween, AreLines}
 use Rattle.round_robin.specs.Truth.{IsTrueTournament, TournamentsAreTrue, expects_of, nothing, own_expected, plus, true_total, true_totals, true_rank}
 use Rattle.lab_report.specs.declared.report.Report.{Report}
-use Rattle.lab_report.specs.Names.{name_at}
+use Rattle.report_names.specs.Names.{name_at}
 use Rattle.lab_report.specs.Text.{report_text, shown_match}
 use Rattle.lab_report.specs.Valid.{IsValid}
 use Rattle.report_making.specs.Made.{ShowsNames, moved_match, moved_matches, names_in_order, places_in, tournament_report_of}

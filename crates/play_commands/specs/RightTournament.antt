@@ -13,7 +13,7 @@ use Rattle.result_lines.specs.declared.ranking.Rank.TheVariants.{At}
 use Rattle.round_robin.specs.Truth.{nothing, true_totals, true_rank}
 use Rattle.lab_report.specs.declared.report.Body.TheVariants as bodies
 use Rattle.lab_report.specs.declared.report.Report.{Report}
-use Rattle.lab_report.specs.Names.{name_at}
+use Rattle.report_names.specs.Names.{name_at}
 use Rattle.lab_report.specs.Text.{report_text}
 use Rattle.lab_report.specs.Valid.{IsValid}
 use Rattle.lab_file.specs.declared.tournament.TournamentJob.{TournamentJob}

@@ -1,8 +1,8 @@
-//! Lists of a report.
+//! Names of a report, and their places.
 ghost use Rattle.std.specs.Prelude.{◌≡◌, ◌<◌, ◌^◌, ◌-◌, ◌++◌, ◌∷◌, [], length, IfOk, OnErr, OnOk};
-ghost use Rattle.lab_report.specs.Names.{name_at, place_in, with_name};
+ghost use Rattle.report_names.specs.Names.{name_at, place_in, with_name};
 
-use history_model::{Name, Noise};
+use history_model::Name;
 use std::alloc::{AllocFailed, Global};
 use std::marker::Model;
 
@@ -60,7 +60,7 @@ impl Names {
     }
 
     /// The name at a place.
-    pub(crate) fn at(&self, place: u32) -> &Name
+    pub fn at(&self, place: u32) -> &Name
         requires { place < length self.now }
         ensures { result.now ≡ name_at self.now place }
     {
@@ -102,117 +102,4 @@ pub fn place_in(names: &[Name], name: &Name) -> u32
         place += 1;
     }
     place
-}
-
-/// Places in names, in order. Contracts see them as their list.
-#[derive(Drop)]
-pub struct Places {
-    items: Vec<u32>,
-}
-
-impl Model for Places {
-    ghost use Rattle.std.specs.Prelude.{ℕ, List};
-
-    ghost Value = { List ℕ };
-
-    ghost view = { λ s. s.items.items };
-}
-
-impl Places {
-    /// The places of this list.
-    pub fn from_vec(items: Vec<u32>) -> Places
-        ensures { result ≡ items.items }
-    {
-        Places { items }
-    }
-
-    /// The list back.
-    pub fn into_vec(self) -> Vec<u32>
-        ensures { result.items ≡ self }
-    {
-        self.items
-    }
-
-    /// The places as a slice.
-    pub fn as_slice(&self) -> &[u32]
-        ensures { result.now ≡ self.now }
-    {
-        &self.items
-    }
-}
-
-/// Machines of the first rank, by their places in names, each with its total in units of 10^-12.
-/// Contracts see them as their list.
-#[derive(Drop)]
-pub struct Leaders {
-    items: Vec<(u32, i128)>,
-}
-
-impl Model for Leaders {
-    ghost use Rattle.std.specs.Prelude.{ℕ, ℤ, List};
-
-    ghost Value = { List (ℕ × ℤ) };
-
-    ghost view = { λ s. s.items.items };
-}
-
-impl Leaders {
-    /// The machines of this list.
-    pub fn from_vec(items: Vec<(u32, i128)>) -> Leaders
-        ensures { result ≡ items.items }
-    {
-        Leaders { items }
-    }
-
-    /// The list back.
-    pub fn into_vec(self) -> Vec<(u32, i128)>
-        ensures { result.items ≡ self }
-    {
-        self.items
-    }
-
-    /// The machines as a slice.
-    pub fn as_slice(&self) -> &[(u32, i128)]
-        ensures { result.now ≡ self.now }
-    {
-        &self.items
-    }
-}
-
-/// Noises, in order. Contracts see them as their list.
-#[derive(Drop)]
-pub struct Noises {
-    items: Vec<Noise>,
-}
-
-impl Model for Noises {
-    ghost use Rattle.std.specs.Prelude.{List};
-    ghost use Rattle.history_model.specs.Noise.{FlipRate};
-
-    ghost Value = { List FlipRate };
-
-    ghost view = { λ s. s.items.items };
-}
-
-impl Noises {
-    /// The noises of this list.
-    pub fn from_vec(items: Vec<Noise>) -> Noises
-        ensures { result ≡ items.items }
-    {
-        Noises { items }
-    }
-
-    /// The list back.
-    pub fn into_vec(self) -> Vec<Noise>
-        ensures { result.items ≡ self }
-    {
-        self.items
-    }
-
-    /// The noises as a slice.
-    pub fn as_slice(&self) -> &[Noise]
-        ensures { result.now ≡ self.now }
-    {
-        &self.items
-    }
 }

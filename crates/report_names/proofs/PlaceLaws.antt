@@ -6,7 +6,7 @@ use Rattle.std.proofs.lemmas.Slice.Eq.{bytes_eq-Decides}
 use Rattle.std.proofs.lemmas.List.{get_or_append_left, get_or_push}
 use Rattle.std.proofs.lemmas.List.Elements.{All-push}
 use Rattle.std.specs.List.{All}
-use Rattle.lab_report.specs.Names.{name_at, is_among, with_name, place_in}
+use Rattle.report_names.specs.Names.{name_at, is_among, with_name, place_in}
 
 cond_le : (t : Bool) (a b : ℕ) → a ≤ b → cond t 0 (a + 1) ≤ suc b
 cond_le true a b h = omega arith
