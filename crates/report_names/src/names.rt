@@ -94,11 +94,7 @@ impl Names {
         ensures { result ≡ both_come self.now shown.now first.now second.now }
     {
         let count = shown.items.len();
-        let next = if shown.has(first) {
-            count
-        } else {
-            count + 1
-        };
+        let next = if shown.has(first) { count } else { count + 1 };
         let is_old = shown.has(second) || first.bytes() == second.bytes();
         self.comes(shown, first) && (is_old || self.stands_at(next, second))
     }
