@@ -1,5 +1,5 @@
 -- The lines of a report, and its text.
-use Rattle.std.specs.Prelude.{ℕ, List, [], ◌∷◌, ◌++◌, map, Option, Some, None, ℤ}
+use Rattle.std.specs.Prelude.{ℕ, List, [], ◌∷◌, ◌++◌, map, Option, Some, None, ℤ, pos, ◌-ℤ◌}
 use Rattle.history_model.specs.Game.{Payoffs}
 use Rattle.history_model.specs.Noise.{FlipRate}
 use Rattle.result_lines.specs.declared.line.MatchLine.{MatchLine}
@@ -8,7 +8,9 @@ use Rattle.result_lines.specs.declared.ranking.Rank.TheVariants as ranks
 use Rattle.result_lines.specs.declared.tables.EntryLine.{EntryLine}
 use Rattle.report_lines.specs.declared.line.Kind.{Kind}
 use Rattle.report_lines.specs.declared.line.Kind.TheVariants as kinds
+use Rattle.report_lines.specs.declared.line.ShownGame.{ShownGame}
 use Rattle.report_lines.specs.declared.line.ShownMatch.{ShownMatch}
+use Rattle.report_lines.specs.declared.line.ShownOwn.{ShownOwn}
 use Rattle.report_lines.specs.declared.line.ShownEntry.{ShownEntry}
 use Rattle.report_lines.specs.declared.line.ShownFirst.{ShownFirst}
 use Rattle.report_lines.specs.declared.line.Line.{Line}
@@ -78,16 +80,39 @@ body_lines names (bodies.Match line) = lines.Match (shown_match names line) ∷ 
 body_lines names (bodies.Tournament matches who entries) = match_lines names matches ++ entry_lines names who entries
 body_lines names (bodies.Drill number first sum) = drill_lines names number first sum
 
--- what is told of the lab behind the first line; a drill has none
-abbrev pub lab_lines : Kind → Payoffs → FlipRate → List Line
-lab_lines kinds.Match game noise = lines.Game game ∷ lines.Noise noise ∷ []
-lab_lines kinds.Tournament game noise = lines.Game game ∷ lines.Noise noise ∷ []
-lab_lines kinds.Drill game noise = []
+-- a payoff less the offset
+abbrev pub less : ℕ → ℕ → ℤ
+less offset payoff = pos payoff -ℤ pos offset
+
+-- the payoffs of the lab's file: those of the raised game less the offset
+abbrev pub shown_game : ℕ → Payoffs → ShownGame
+shown_game offset game = record { r = less offset game.r; s = less offset game.s; t = less offset game.t; p = less offset game.p }
+
+-- the noise of a name
+abbrev pub shown_own : List ℕ → FlipRate → ShownOwn
+shown_own name noise = record { name = name; noise = noise }
+
+-- the lines of the noises that names have of their own
+abbrev pub own_lines : List (List ℕ) → List FlipRate → List Line
+own_lines (name ∷ names) (noise ∷ noises) = lines.Own (shown_own name noise) ∷ own_lines names noises
+own_lines _ _ = []
+
+-- what is told of the lab behind the first line; a drill tells nothing
+abbrev pub lab_lines : Kind → ℕ → Payoffs → FlipRate → List Line → List Line
+lab_lines kinds.Match offset game noise own = lines.Game (shown_game offset game) ∷ lines.Noise noise ∷ own
+lab_lines kinds.Tournament offset game noise own = lines.Game (shown_game offset game) ∷ lines.Noise noise ∷ own
+lab_lines kinds.Drill offset game noise own = []
+
+-- the first line
+abbrev pub first_line : ℕ → Kind → Line
+first_line version kind = lines.Head (record { version = version; kind = kind })
 
 -- all lines of a report
 abbrev pub lines_of : Report → List Line
 lines_of report =
-    lines.Head (kind_of report.body) ∷ (lab_lines (kind_of report.body) report.game report.noise ++ (body_lines report.names report.body ++ lines.End ∷ []))
+    first_line report.version (kind_of report.body)
+    ∷ (lab_lines (kind_of report.body) report.offset report.game report.noise (own_lines report.names report.noises)
+    ++ (body_lines report.names report.body ++ lines.End ∷ []))
 
 -- each line with the LF that ends it
 abbrev pub text_of_lines : List Line → List ℕ
