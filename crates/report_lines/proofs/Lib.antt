@@ -1,5 +1,6 @@
 pub mod InRange
 pub mod FieldLaws
+pub mod HeadLaws
 pub mod EntryLaws
 pub mod FirstLaws
 pub mod LineLaws
