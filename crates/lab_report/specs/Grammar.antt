@@ -1,15 +1,13 @@
 -- Which line may follow which.
-use Rattle.std.specs.Prelude.{ℕ, ◌≡◌, ◌+◌, ◌==◌, ◌&&◌, ◌||◌, Bool, true, false, not, nat_le, ℤ, pos, ◌+ℤ◌, int_le, unsigned_abs, max, List, [], ◌∷◌, ◌++◌, length, Some, None, if◌then◌else◌}
-use Rattle.history_model.specs.Game.{Payoffs, magnitude, most}
-use Rattle.history_model.specs.Noise.{FlipRate}
+use Rattle.std.specs.Prelude.{ℕ, ◌≡◌, ◌≤◌, ◌==◌, ◌&&◌, ◌||◌, Bool, true, false, not, List, [], ◌∷◌, ◌++◌, length, Option, Some, None}
 use Rattle.texts.specs.Grammar.{Grammar}
 use Rattle.report_lines.specs.declared.line.Kind.{Kind}
 use Rattle.report_lines.specs.declared.line.Kind.TheVariants as kinds
 use Rattle.report_lines.specs.declared.line.Line.{Line}
 use Rattle.report_lines.specs.declared.line.Line.TheVariants as lines
 use Rattle.report_lines.specs.declared.line.ShownGame.{ShownGame}
-use Rattle.report_lines.specs.declared.line.ShownHead.{ShownHead}
 use Rattle.report_lines.specs.declared.line.ShownOwn.{ShownOwn}
+use Rattle.report_lines.specs.Payoffs.{offset_of, raised_game, are_near}
 use Rattle.report_lines.specs.Texts.{line_text, is_line}
 use Rattle.report_names.specs.declared.own.OwnNoises.{OwnNoises}
 use Rattle.report_names.specs.Names.{both_come, comes, is_among}
@@ -24,30 +22,11 @@ use Rattle.lab_report.specs.MatchRules.{match_allows, after_match}
 use Rattle.lab_report.specs.Room.{HasTableRoom}
 use Rattle.lab_report.specs.TableRules.{table_allows, after_table}
 
--- ---- the payoffs
+-- ---- what the head tells of the lab
 
--- how far a payoff lies below 0
-abbrev pub below : ℤ → ℕ
-below payoff = if int_le (pos 0) payoff then 0 else unsigned_abs payoff
-
--- the offset: how far the least payoff lies below 0
-abbrev pub offset_of : ShownGame → ℕ
-offset_of x = max (max (max (below x.r) (below x.s)) (below x.t)) (below x.p)
-
--- a payoff with the offset, and all four
-abbrev pub raised : ℕ → ℤ → ℕ
-raised offset payoff = magnitude (payoff +ℤ pos offset)
-
-abbrev pub raised_game : ℕ → ShownGame → Payoffs
-raised_game offset x = record { r = raised offset x.r; s = raised offset x.s; t = raised offset x.t; p = raised offset x.p }
-
--- the game and the offset of payoffs that are shown in a version
+-- payoffs that may be shown in a version: in the first none is below 0
 abbrev pub is_game_of : ℕ → ShownGame → Bool
-is_game_of version x = (not (version == 1) || offset_of x == 0) && nat_le (most (raised_game (offset_of x) x)) 1000000
-
--- what the lines of the head tell of the lab
-abbrev pub head_with : ℕ → ShownGame → FlipRate → Head
-head_with version x noise = record { version = version; offset = offset_of x; game = raised_game (offset_of x) x; noise = noise }
+is_game_of version x = (not (version == 1) || offset_of x == 0) && are_near x
 
 -- ---- noises of single names
 
@@ -55,7 +34,10 @@ head_with version x noise = record { version = version; offset = offset_of x; ga
 abbrev pub own_allows : ℕ → List (List ℕ) → List (List ℕ) → ShownOwn → Bool
 own_allows version owners names x = (not (version == 1) && length names == 0) && not (is_among x.name owners)
 
--- the noises with one more
+-- no noises yet, and the noises with one more
+abbrev pub no_own : OwnNoises
+no_own = record { names = []; noises = [] }
+
 abbrev pub with_own : OwnNoises → ShownOwn → OwnNoises
 with_own own x = record { names = own.names ++ x.name ∷ []; noises = own.noises ++ x.noise ∷ [] }
 
@@ -88,6 +70,21 @@ HasRoom (parts.Match None) names = names ≡ []
 HasRoom (parts.Match (Some line)) names = Unit {0}
 HasRoom (parts.Tournament table) names = HasTableRoom names table
 
+-- the noise of a name, where that is what a line shows
+abbrev pub own_of : Line → Option ShownOwn
+own_of (lines.Own x) = Some x
+own_of _ = None
+
+-- whether a line may follow those of a head, of noises of single names, and of a body
+abbrev pub inner_allows : Head → OwnNoises → List (List ℕ) → BodySoFar → Line → Option ShownOwn → Bool
+inner_allows head own names body i (Some x) = own_allows head.version own.names names x
+inner_allows head own names body i None = body_allows head names body i && follows head.version own.names names i
+
+-- what it leaves then
+abbrev pub after_inner : Head → OwnNoises → List (List ℕ) → BodySoFar → Line → Option ShownOwn → State
+after_inner head own names body i (Some x) = states.InBody head (with_own own x) names body
+after_inner head own names body i None = after_body head own names body i
+
 -- ---- reports: the first line, the game and the noises of a lab, the body's lines and the end
 
 -- what the first line leaves: a drill shows no game and no noise
@@ -100,19 +97,18 @@ after_head version kinds.Drill = states.InDrill [] drills.Begun
 abbrev pub allows : State → Line → Bool
 allows states.Start (lines.Head x) = true
 allows (states.AfterHead version body) (lines.Game x) = is_game_of version x
-allows (states.AfterGame version game body) (lines.Noise noise) = true
-allows (states.InBody head own names body) (lines.Own x) = own_allows head.version own.names names x
-allows (states.InBody head own names body) i = body_allows head names body i && follows head.version own.names names i
+allows (states.AfterGame version offset game body) (lines.Noise noise) = true
+allows (states.InBody head own names body) i = inner_allows head own names body i (own_of i)
 allows (states.InDrill names drill) i = drill_allows drill i
 allows _ _ = false
 
 -- what it leaves then
 abbrev pub after : State → Line → State
 after states.Start (lines.Head x) = after_head x.version x.kind
-after (states.AfterHead version body) (lines.Game x) = states.AfterGame version x body
-after (states.AfterGame version game body) (lines.Noise noise) = states.InBody (head_with version game noise) (record { names = []; noises = [] }) [] body
-after (states.InBody head own names body) (lines.Own x) = states.InBody head (with_own own x) names body
-after (states.InBody head own names body) i = after_body head own names body i
+after (states.AfterHead version body) (lines.Game x) = states.AfterGame version (offset_of x) (raised_game x) body
+after (states.AfterGame version offset game body) (lines.Noise noise) =
+    states.InBody (record { version = version; offset = offset; game = game; noise = noise }) no_own [] body
+after (states.InBody head own names body) i = after_inner head own names body i (own_of i)
 after (states.InDrill names drill) i = after_drill names drill i
 after state _ = state
 
@@ -121,11 +117,11 @@ abbrev pub is_ended : State → Bool
 is_ended (states.Ended head noises names body) = true
 is_ended _ = false
 
--- the names so far of a state leave room for those of one more line
+-- the names so far of a state leave room for those of one more line, and an offset is small
 abbrev pub StateHasRoom : State → Type 0
 StateHasRoom (states.AfterHead version body) = HasRoom body []
-StateHasRoom (states.AfterGame version game body) = HasRoom body []
-StateHasRoom (states.InBody head own names body) = HasRoom body names
+StateHasRoom (states.AfterGame version offset game body) = (offset ≤ 1000000) × HasRoom body []
+StateHasRoom (states.InBody head own names body) = (head.offset ≤ 1000000) × HasRoom body names
 StateHasRoom (states.InDrill names drill) = HasDrillRoom names drill
 StateHasRoom _ = Unit {0}
 

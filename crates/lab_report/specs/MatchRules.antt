@@ -21,15 +21,15 @@ use Rattle.lab_report.specs.Valid.{paid}
 abbrev pub is_shown : ℕ → Ends → Bool
 is_shown version score = not (version == 1) || int_le (pos 0) score.lo
 
--- the score is that of these points
-abbrev pub is_paid : Ends → Ends → Bool
-is_paid score points = int_eq score.lo points.lo && int_eq score.hi points.hi
+-- two scores have the same ends
+abbrev pub same_ends : Ends → Ends → Bool
+same_ends a b = int_eq a.lo b.lo && int_eq a.hi b.hi
 
 -- the scores are what the counts are paid
 abbrev pub pays : Head → Ends → Ends → ℕ → Option Tally → Bool
 pays head left right turns None = true
 pays head left right turns (Some tally) =
-    is_paid left (paid head.offset turns (left_points head.game tally)) && is_paid right (paid head.offset turns (right_points head.game tally))
+    same_ends left (paid head.offset turns (left_points head.game tally)) && same_ends right (paid head.offset turns (right_points head.game tally))
 
 -- the scores may stand in this version, and are what the counts are paid
 abbrev pub is_scored : Head → ShownMatch → Bool

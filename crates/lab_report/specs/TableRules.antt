@@ -1,6 +1,5 @@
 -- Which line may follow which in the report of a tournament: match lines, then a line for each entry, and then the end.
 use Rattle.std.specs.Prelude.{ℕ, ◌+◌, ◌==◌, ◌&&◌, Bool, true, false, not, nat_lt, nat_le, List, [], ◌∷◌, ◌++◌, length, map, Option, Some, None}
-use Rattle.std.specs.Ordering.{int_eq}
 use Rattle.fixed_span.specs.Span.{Ends}
 use Rattle.result_lines.specs.declared.line.MatchLine.{MatchLine}
 use Rattle.result_lines.specs.declared.ranking.Rank.{Rank}
@@ -19,7 +18,7 @@ use Rattle.lab_report.specs.declared.state.BodySoFar.TheVariants as parts
 use Rattle.lab_report.specs.declared.state.State.{State}
 use Rattle.lab_report.specs.declared.state.State.TheVariants as states
 use Rattle.lab_report.specs.declared.table.Table.{Table}
-use Rattle.lab_report.specs.MatchRules.{is_scored, placed_match, names_with_match}
+use Rattle.lab_report.specs.MatchRules.{is_scored, same_ends, placed_match, names_with_match}
 use Rattle.report_names.specs.Names.{place_in, with_name}
 use Rattle.report_names.specs.Places.{is_listed, are_listed}
 
@@ -33,9 +32,6 @@ rank_read (Some rank) = ranks.At rank
 -- the line without the name
 abbrev pub unnamed : ShownEntry → EntryLine
 unnamed x = record { total = x.total; rank = rank_read x.rank; wins = x.wins; undecided = x.undecided }
-
-abbrev pub same_ends : Ends → Ends → Bool
-same_ends a b = int_eq a.lo b.lo && int_eq a.hi b.hi
 
 -- the total of the entry at a place, and its matches won and undecided, are those of the match lines
 abbrev pub adds_up : List MatchLine → ℕ → ShownEntry → Bool

@@ -1,5 +1,5 @@
 -- The lines of a report, and its text.
-use Rattle.std.specs.Prelude.{ℕ, List, [], ◌∷◌, ◌++◌, map, Option, Some, None, ℤ, pos, ◌-ℤ◌}
+use Rattle.std.specs.Prelude.{ℕ, List, [], ◌∷◌, ◌++◌, map, Option, Some, None, ℤ}
 use Rattle.history_model.specs.Game.{Payoffs}
 use Rattle.history_model.specs.Noise.{FlipRate}
 use Rattle.result_lines.specs.declared.line.MatchLine.{MatchLine}
@@ -8,13 +8,13 @@ use Rattle.result_lines.specs.declared.ranking.Rank.TheVariants as ranks
 use Rattle.result_lines.specs.declared.tables.EntryLine.{EntryLine}
 use Rattle.report_lines.specs.declared.line.Kind.{Kind}
 use Rattle.report_lines.specs.declared.line.Kind.TheVariants as kinds
-use Rattle.report_lines.specs.declared.line.ShownGame.{ShownGame}
 use Rattle.report_lines.specs.declared.line.ShownMatch.{ShownMatch}
 use Rattle.report_lines.specs.declared.line.ShownOwn.{ShownOwn}
 use Rattle.report_lines.specs.declared.line.ShownEntry.{ShownEntry}
 use Rattle.report_lines.specs.declared.line.ShownFirst.{ShownFirst}
 use Rattle.report_lines.specs.declared.line.Line.{Line}
 use Rattle.report_lines.specs.declared.line.Line.TheVariants as lines
+use Rattle.report_lines.specs.Payoffs.{shown_game}
 use Rattle.report_lines.specs.Texts.{line_text}
 use Rattle.lab_report.specs.declared.report.Body.{Body}
 use Rattle.lab_report.specs.declared.report.Body.TheVariants as bodies
@@ -57,10 +57,14 @@ shown_entry names place entry = record {
 abbrev pub match_lines : List (List ℕ) → List MatchLine → List Line
 match_lines names matches = map (λ line. lines.Match (shown_match names line)) matches
 
+-- what is made of two lists side by side, as far as both go
+abbrev pub side_by_side : {A B : Type 0} → (A → B → Line) → List A → List B → List Line
+side_by_side f (x ∷ xs) (y ∷ ys) = f x y ∷ side_by_side f xs ys
+side_by_side f _ _ = []
+
 -- the lines of entries, each of the entry at its place
 abbrev pub entry_lines : List (List ℕ) → List ℕ → List EntryLine → List Line
-entry_lines names (place ∷ who) (entry ∷ entries) = lines.Entry (shown_entry names place entry) ∷ entry_lines names who entries
-entry_lines names _ _ = []
+entry_lines names who entries = side_by_side (λ place entry. lines.Entry (shown_entry names place entry)) who entries
 
 -- the line of a machine of the first rank, with its name
 abbrev pub shown_first : List (List ℕ) → ℕ × ℤ → ShownFirst
@@ -80,22 +84,13 @@ body_lines names (bodies.Match line) = lines.Match (shown_match names line) ∷ 
 body_lines names (bodies.Tournament matches who entries) = match_lines names matches ++ entry_lines names who entries
 body_lines names (bodies.Drill number first sum) = drill_lines names number first sum
 
--- a payoff less the offset
-abbrev pub less : ℕ → ℕ → ℤ
-less offset payoff = pos payoff -ℤ pos offset
-
--- the payoffs of the lab's file: those of the raised game less the offset
-abbrev pub shown_game : ℕ → Payoffs → ShownGame
-shown_game offset game = record { r = less offset game.r; s = less offset game.s; t = less offset game.t; p = less offset game.p }
-
 -- the noise of a name
 abbrev pub shown_own : List ℕ → FlipRate → ShownOwn
 shown_own name noise = record { name = name; noise = noise }
 
 -- the lines of the noises that names have of their own
 abbrev pub own_lines : List (List ℕ) → List FlipRate → List Line
-own_lines (name ∷ names) (noise ∷ noises) = lines.Own (shown_own name noise) ∷ own_lines names noises
-own_lines _ _ = []
+own_lines names noises = side_by_side (λ name noise. lines.Own (shown_own name noise)) names noises
 
 -- what is told of the lab behind the first line; a drill tells nothing
 abbrev pub lab_lines : Kind → ℕ → Payoffs → FlipRate → List Line → List Line

@@ -2,12 +2,13 @@
 use Rattle.std.specs.List.{AllPairs, AllZip, list_any}
 use Rattle.std.specs.Prelude.{ℕ, ℤ, ◌≡◌, ◌≢◌, ◌==◌, true, ◌*◌, ◌^◌, ◌<◌, ◌≤◌, pos, ◌≤ℤ◌, All, List, [], ◌∷◌, ◌++◌, length, map, IfSome, neg_ℤ, if◌then◌else◌}
 use Rattle.history_model.specs.declared.tally.Tally.{Tally}
-use Rattle.history_model.specs.Game.{Payoffs, IsGame, least}
+use Rattle.history_model.specs.Game.{Payoffs, IsGame}
 use Rattle.history_model.specs.Name.{IsName}
 use Rattle.history_model.specs.Noise.{IsFlipRate, no_noise}
 use Rattle.history_model.specs.Tally.{total, left_points, right_points}
 use Rattle.fixed_span.specs.Lowered.{lowered}
 use Rattle.fixed_span.specs.Span.{Ends, point, score_units}
+use Rattle.report_lines.specs.Payoffs.{IsOffset}
 use Rattle.result_lines.specs.declared.line.MatchLine.{MatchLine}
 use Rattle.result_lines.specs.declared.tables.EntryLine.{EntryLine}
 use Rattle.result_lines.specs.Ranks.{ranks_of}
@@ -20,11 +21,6 @@ use Rattle.report_names.specs.Names.{name_at, with_names}
 use Rattle.lab_report.specs.Text.{report_text}
 
 -- ---- what a report tells of its lab
-
--- an offset is at most 1,000,000, and where there is one, the least payoff with it is 0
-pub record IsOffset (game : Payoffs) (offset : ℕ) : Type 0 where
-  pub few : offset ≤ 1000000
-  pub least : 0 < offset → least game ≡ 0
 
 -- there are two versions, of which the first has no offset
 pub record IsHead (head : Head) : Type 0 where

@@ -4,3 +4,4 @@ pub mod HeadLaws
 pub mod EntryLaws
 pub mod FirstLaws
 pub mod LineLaws
+pub mod Raising

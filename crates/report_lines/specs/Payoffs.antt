@@ -1,5 +1,5 @@
 -- The payoffs that a line shows, and those of the raised game, in which none is below 0.
-use Rattle.std.specs.Prelude.{ℕ, ◌≡◌, ◌+◌, ◌<◌, ◌≤◌, ℤ, pos, negsuc, ◌+ℤ◌, ◌-ℤ◌, max}
+use Rattle.std.specs.Prelude.{ℕ, ◌≡◌, ◌&&◌, Bool, nat_le, ◌+◌, ◌<◌, ◌≤◌, ℤ, pos, negsuc, ◌+ℤ◌, ◌-ℤ◌, max}
 use Rattle.history_model.specs.Game.{Payoffs, magnitude, least}
 use Rattle.report_lines.specs.declared.line.ShownGame.{ShownGame}
 
@@ -18,6 +18,13 @@ raised offset payoff = magnitude (payoff +ℤ pos offset)
 
 abbrev pub raised_game : ShownGame → Payoffs
 raised_game x = record { r = raised (offset_of x) x.r; s = raised (offset_of x) x.s; t = raised (offset_of x) x.t; p = raised (offset_of x) x.p }
+
+-- all four payoffs of the raised game are at most 1,000,000: the greatest is no more than that above the least, or above 0
+abbrev pub is_small : ℕ → Bool
+is_small payoff = nat_le payoff 1000000
+
+abbrev pub are_near : ShownGame → Bool
+are_near x = (is_small (raised_game x).r && is_small (raised_game x).s) && (is_small (raised_game x).t && is_small (raised_game x).p)
 
 -- a payoff less the offset, and so all four
 abbrev pub less : ℕ → ℕ → ℤ

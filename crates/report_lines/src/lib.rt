@@ -3,6 +3,7 @@
 
 mod laws;
 mod line;
+mod payoffs;
 mod reading;
 mod writing;
 

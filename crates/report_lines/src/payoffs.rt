@@ -1,8 +1,7 @@
 //! The payoffs that a line shows, and those of the raised game.
-ghost use Rattle.std.specs.Prelude.{◌≡◌, ◌≤◌, ◌<◌, true, pos, negsuc, ◌≤ℤ◌};
-ghost use Rattle.history_model.specs.Game.{most};
-ghost use Rattle.report_lines.specs.HeadForms.{is_game};
-ghost use Rattle.report_lines.specs.Payoffs.{below, less, raised};
+ghost use Rattle.std.specs.Prelude.{◌≡◌, ◌≤◌, pos, negsuc, ◌≤ℤ◌};
+ghost use Rattle.history_model.specs.Game.{IsGame};
+ghost use Rattle.report_lines.specs.Payoffs.{below, is_small, less, raised};
 
 use crate::ShownGame;
 use history_model::Game;
@@ -22,42 +21,64 @@ fn below(payoff: i64) -> u32
 }
 
 // A payoff plus the offset, which is no less than it lies below 0.
-fn raised(payoff: i64, offset: u32) -> i64
+fn raised(payoff: i64, offset: u32) -> u64
     requires low { negsuc 999999 ≤ℤ payoff }
     requires high { payoff ≤ℤ pos 1000000 }
     requires enough { below payoff ≤ offset }
     requires few { offset ≤ 1000000 }
-    ensures value { result ≡ pos (raised offset payoff) }
-    ensures bound { result ≤ℤ pos 2000000 }
+    ensures value { result ≡ raised offset payoff }
+    ensures bound { result ≤ 2000000 }
 {
-    payoff + offset as i64
+    (payoff + offset as i64) as u64
 }
 
-fn less(payoff: i64, offset: u32) -> i64
-    requires low { pos 0 ≤ℤ payoff }
-    requires high { payoff ≤ℤ pos 1000000 }
-    requires few { offset ≤ 1000000 }
-    ensures { (n : ℕ) → payoff ≡ pos n → result ≡ less offset n }
+fn game_of(r: u64, s: u64, t: u64, p: u64) -> Game
+    requires { IsGame (record { r = r; s = s; t = t; p = p }) }
+    ensures { result ≡ record { r = r; s = s; t = t; p = p } }
 {
-    payoff - offset as i64
+    Game {
+        r: r as i64,
+        s: s as i64,
+        t: t as i64,
+        p: p as i64,
+    }
+}
+
+// Whether a payoff plus the offset is at most 1,000,000.
+fn is_small(payoff: i64, offset: u32) -> bool
+    requires low { negsuc 999999 ≤ℤ payoff }
+    requires high { payoff ≤ℤ pos 1000000 }
+    requires enough { below payoff ≤ offset }
+    requires few { offset ≤ 1000000 }
+    ensures { result ≡ is_small (raised offset payoff) }
+{
+    raised(payoff, offset) <= 1_000_000
+}
+
+fn less(payoff: u64, offset: u32) -> i64
+    requires payoff { payoff ≤ 1000000 }
+    requires offset { offset ≤ 1000000 }
+    ensures { result ≡ less offset payoff }
+{
+    payoff as i64 - offset as i64
 }
 
 impl ShownGame {
     ghost use Rattle.std.specs.Prelude.{◌≡◌, ◌≤◌, true};
-    ghost use Rattle.history_model.specs.Game.{most};
     ghost use Rattle.report_lines.specs.HeadForms.{is_game};
-    ghost use Rattle.report_lines.specs.Payoffs.{offset_of, raised_game, shown_game};
+    ghost use Rattle.report_lines.specs.Payoffs.{are_near, offset_of, raised_game, shown_game};
 
     /// The payoffs of a game, each less by an offset of at most 1,000,000.
     pub fn of(game: &Game, offset: u32) -> ShownGame
         requires few { offset ≤ 1000000 }
         ensures { result ≡ shown_game offset game.now }
     {
+        let (r, s, t, p) = game.unsigned();
         ShownGame {
-            r: less(game.r, offset),
-            s: less(game.s, offset),
-            t: less(game.t, offset),
-            p: less(game.p, offset),
+            r: less(r, offset),
+            s: less(s, offset),
+            t: less(t, offset),
+            p: less(p, offset),
         }
     }
 
@@ -72,37 +93,25 @@ impl ShownGame {
         r.max(s).max(t).max(p)
     }
 
-    // The greatest payoff plus the offset.
-    fn most(&self) -> i64
-        requires line { is_game self.now ≡ true }
-        ensures { result ≡ pos (most (raised_game self.now)) }
-    {
-        let offset = self.offset();
-        let (r, s) = (raised(self.r, offset), raised(self.s, offset));
-        let (t, p) = (raised(self.t, offset), raised(self.p, offset));
-        r.max(s).max(t).max(p)
-    }
-
-    /// Whether the greatest payoff is at most 1,000,000 above the least, or above 0.
+    /// Whether the greatest payoff is at most 1,000,000 above the least, or above 0 where none is below.
     pub fn is_near(&self) -> bool
         requires line { is_game self.now ≡ true }
-        ensures { result ≡ nat_le (most (raised_game self.now)) 1000000 }
+        ensures { result ≡ are_near self.now }
     {
-        self.most() <= 1_000_000
+        let offset = self.offset();
+        (is_small(self.r, offset) && is_small(self.s, offset))
+            && (is_small(self.t, offset) && is_small(self.p, offset))
     }
 
     /// The payoffs plus the offset: the game in which none is below 0.
     pub fn raised(&self) -> Game
         requires line { is_game self.now ≡ true }
-        requires near { most (raised_game self.now) ≤ 1000000 }
+        requires near { are_near self.now ≡ true }
         ensures { result ≡ raised_game self.now }
     {
         let offset = self.offset();
-        Game {
-            r: raised(self.r, offset),
-            s: raised(self.s, offset),
-            t: raised(self.t, offset),
-            p: raised(self.p, offset),
-        }
+        let (r, s) = (raised(self.r, offset), raised(self.s, offset));
+        let (t, p) = (raised(self.t, offset), raised(self.p, offset));
+        game_of(r, s, t, p)
     }
 }
