@@ -21,12 +21,12 @@ use Rattle.lab_report.specs.declared.state.State.{State}
 use Rattle.lab_report.specs.declared.state.State.TheVariants as states
 use Rattle.lab_report.specs.DrillRules.{drill_allows, with_first}
 use Rattle.lab_report.specs.Grammar.{grammar}
-use Rattle.lab_report.specs.Names.{name_at, with_name, with_names, place_in}
+use Rattle.report_names.specs.Names.{name_at, with_name, with_names, place_in}
 use Rattle.lab_report.specs.Text.{shown_first, first_lines, drill_lines}
 use Rattle.lab_report.specs.Valid.{IsDrill, IsFirstOf, IsTotal, drill_game, first_names}
-use Rattle.lab_report.proofs.Growth.{Grows, all_differ, all_head, all_tail, grows_one, names_then, place_kept}
+use Rattle.report_names.proofs.Growth.{Grows, all_differ, all_head, all_tail, grows_one, names_then, place_kept}
 use Rattle.lab_report.proofs.MatchRuns.{place_back}
-use Rattle.lab_report.proofs.PlaceLaws.{Differ, none_differ, place_below, stands_there, with_all}
+use Rattle.report_names.proofs.PlaceLaws.{Differ, none_differ, place_below, stands_there, with_all}
 use Rattle.lab_report.proofs.Ranges.{both_back, both_true, int_le_back, int_le_is}
 use Rattle.lab_report.proofs.States.{IsSound, IsSoundBody, IsSoundFirst, Adds, no_case, one_line}
 

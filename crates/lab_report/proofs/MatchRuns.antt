@@ -16,11 +16,11 @@ use Rattle.lab_report.specs.declared.state.State.{State}
 use Rattle.lab_report.specs.declared.state.State.TheVariants as states
 use Rattle.lab_report.specs.Grammar.{grammar}
 use Rattle.lab_report.specs.MatchRules.{pays, placed_match, names_with_match, match_allows}
-use Rattle.lab_report.specs.Names.{name_at, with_name, with_names, place_in}
+use Rattle.report_names.specs.Names.{name_at, with_name, with_names, place_in}
 use Rattle.lab_report.specs.Text.{shown_match, body_lines}
 use Rattle.lab_report.specs.Valid.{IsShowable, IsMatchOf}
-use Rattle.lab_report.proofs.Growth.{all_differ, grows_all}
-use Rattle.lab_report.proofs.PlaceLaws.{place_below, longer, name_stays, stands_there, Differ, none_differ, with_all}
+use Rattle.report_names.proofs.Growth.{all_differ, grows_all}
+use Rattle.report_names.proofs.PlaceLaws.{place_below, longer, name_stays, stands_there, Differ, none_differ, with_all}
 use Rattle.lab_report.proofs.Ranges.{MatchParts, match_parts, counted, match_back, pays_back}
 use Rattle.lab_report.proofs.States.{IsSound, IsSoundBody, Adds, no_case}
 

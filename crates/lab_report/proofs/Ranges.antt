@@ -16,7 +16,7 @@ use Rattle.result_lines.specs.declared.line.MatchLine.{MatchLine}
 use Rattle.report_lines.specs.declared.line.ShownMatch.{ShownMatch}
 use Rattle.report_lines.specs.Texts.{is_payoff, are_payoffs, is_noise, is_turns, is_score, counts_are, is_match}
 use Rattle.lab_report.specs.MatchRules.{is_paid, pays}
-use Rattle.lab_report.specs.Names.{name_at}
+use Rattle.report_names.specs.Names.{name_at}
 use Rattle.lab_report.specs.Text.{shown_match}
 use Rattle.lab_report.specs.Valid.{IsScore, IsCounted, IsMatchOf}
 

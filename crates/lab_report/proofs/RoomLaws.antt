@@ -25,11 +25,12 @@ use Rattle.lab_report.specs.declared.state.DrillSoFar.TheVariants as drills
 use Rattle.lab_report.specs.DrillRules.{HasDrillRoom, drill_allows, after_drill}
 use Rattle.lab_report.specs.Grammar.{HasRoom, StateHasRoom, after_head, body_allows, after_body, allows, after}
 use Rattle.lab_report.specs.MatchRules.{pays, placed_match, names_with_match, match_allows, after_match}
-use Rattle.lab_report.specs.Names.{with_name, place_in}
+use Rattle.report_names.specs.Names.{with_name, place_in}
 use Rattle.lab_report.specs.Room.{HasTableRoom}
-use Rattle.lab_report.specs.TableRules.{unnamed, adds_up, is_listed, match_fits, entry_fits, with_match, with_entry, table_allows, after_table}
+use Rattle.lab_report.specs.TableRules.{unnamed, adds_up, match_fits, entry_fits, with_match, with_entry, table_allows, after_table}
+use Rattle.report_names.specs.Places.{is_listed}
 use Rattle.lab_report.specs.Valid.{IsScore}
-use Rattle.lab_report.proofs.Growth.{one_longer}
+use Rattle.report_names.proofs.Growth.{one_longer}
 use Rattle.lab_report.proofs.Ranges.{both_true, match_parts}
 use Rattle.lab_report.proofs.States.{no_case}
 

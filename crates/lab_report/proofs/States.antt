@@ -23,7 +23,7 @@ use Rattle.lab_report.specs.declared.state.State.{State}
 use Rattle.lab_report.specs.declared.state.State.TheVariants as states
 use Rattle.lab_report.specs.declared.table.Table.{Table}
 use Rattle.lab_report.specs.Grammar.{allows, after, grammar}
-use Rattle.lab_report.specs.Names.{name_at, with_names}
+use Rattle.report_names.specs.Names.{name_at, with_names}
 use Rattle.lab_report.specs.Text.{kind_of, shown_match, match_lines, entry_lines, first_lines, drill_lines, body_lines, lab_lines}
 use Rattle.lab_report.specs.Valid.{IsBody, IsFirstOf, IsFixed, IsMatchOf, IsCountedIn, IsTotal, first_names, match_names, shown_names}
 

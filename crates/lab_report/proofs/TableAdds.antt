@@ -22,13 +22,15 @@ use Rattle.lab_report.specs.declared.state.State.{State}
 use Rattle.lab_report.specs.declared.state.State.TheVariants as states
 use Rattle.lab_report.specs.declared.table.Table.{Table}
 use Rattle.lab_report.specs.MatchRules.{pays, placed_match, names_with_match}
-use Rattle.lab_report.specs.Names.{name_at, with_name, with_names, place_in}
-use Rattle.lab_report.specs.TableRules.{unnamed, adds_up, is_listed, are_listed, are_ranked, match_fits, entry_fits, is_whole, with_match, with_entry, table_allows}
+use Rattle.report_names.specs.Names.{name_at, with_name, with_names, place_in}
+use Rattle.lab_report.specs.TableRules.{unnamed, adds_up, are_ranked, match_fits, entry_fits, is_whole, with_match, with_entry, table_allows}
+use Rattle.report_names.specs.Places.{is_listed, are_listed}
 use Rattle.lab_report.specs.Text.{shown_match, match_lines, entry_lines}
 use Rattle.lab_report.specs.Valid.{IsMatchOf, IsCountedIn, match_names}
-use Rattle.lab_report.proofs.Growth.{Grows, grows_one, grows_on, names_then, place_kept, matches_stay, match_names_stay, match_names_then, who_stay, entries_stay}
+use Rattle.report_names.proofs.Growth.{Grows, grows_one, grows_on, names_then, place_kept}
+use Rattle.lab_report.proofs.Staying.{matches_stay, match_names_stay, match_names_then, who_stay, entries_stay}
 use Rattle.lab_report.proofs.MatchRuns.{left_name, right_name, now_shown, placed_is}
-use Rattle.lab_report.proofs.PlaceLaws.{place_below, stands_there, with_all}
+use Rattle.report_names.proofs.PlaceLaws.{place_below, stands_there, with_all}
 use Rattle.lab_report.proofs.Ranges.{both_true, leb_is, match_parts}
 use Rattle.lab_report.proofs.States.{IsSoundBody, IsSoundTable, table_of, IsSound, Adds, no_case}
 use Rattle.lab_report.proofs.TableLaws.{all_listed, ranked_is, unlisted_is, counted_is, shown_again, zip_push, zip_none, entry_lines_push}

@@ -27,11 +27,12 @@ use Rattle.report_lines.specs.declared.line.ShownEntry.{ShownEntry}
 use Rattle.report_lines.specs.declared.line.Line.{Line}
 use Rattle.report_lines.specs.declared.line.Line.TheVariants as lines
 use Rattle.report_lines.specs.Texts.{is_total, is_count, is_rank, is_entry}
-use Rattle.lab_report.specs.Names.{name_at}
-use Rattle.lab_report.specs.TableRules.{rank_read, unnamed, same_ends, adds_up, is_listed, are_listed, totals_in, same_rank, ranked_from, are_ranked}
+use Rattle.report_names.specs.Names.{name_at}
+use Rattle.lab_report.specs.TableRules.{rank_read, unnamed, same_ends, adds_up, totals_in, same_rank, ranked_from, are_ranked}
+use Rattle.report_names.specs.Places.{is_listed, are_listed}
 use Rattle.lab_report.specs.Text.{rank_shown, shown_entry, entry_lines}
 use Rattle.lab_report.specs.Valid.{IsScore, IsMatchOf, IsCountedIn}
-use Rattle.lab_report.proofs.Growth.{all_head, all_tail}
+use Rattle.report_names.proofs.Growth.{all_head, all_tail}
 use Rattle.lab_report.proofs.Ranges.{both_true, both_back, same_number, ends, int_le_back}
 
 -- ---- ranks

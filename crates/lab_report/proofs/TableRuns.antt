@@ -21,13 +21,14 @@ use Rattle.lab_report.specs.declared.state.State.{State}
 use Rattle.lab_report.specs.declared.state.State.TheVariants as states
 use Rattle.lab_report.specs.Grammar.{grammar}
 use Rattle.lab_report.specs.MatchRules.{pays, placed_match, names_with_match}
-use Rattle.lab_report.specs.Names.{name_at, with_name, with_names, place_in}
-use Rattle.lab_report.specs.TableRules.{unnamed, adds_up, is_listed, are_listed, are_ranked, match_fits, entry_fits, is_whole}
+use Rattle.report_names.specs.Names.{name_at, with_name, with_names, place_in}
+use Rattle.lab_report.specs.TableRules.{unnamed, adds_up, are_ranked, match_fits, entry_fits, is_whole}
+use Rattle.report_names.specs.Places.{is_listed, are_listed}
 use Rattle.lab_report.specs.Text.{shown_match, shown_entry, match_lines, entry_lines, body_lines}
 use Rattle.lab_report.specs.Valid.{IsMatchOf, IsCountedIn, IsTable, match_names}
-use Rattle.lab_report.proofs.Growth.{all_head, all_tail, all_differ, names_then, place_kept}
+use Rattle.report_names.proofs.Growth.{all_head, all_tail, all_differ, names_then, place_kept}
 use Rattle.lab_report.proofs.MatchRuns.{place_back, placed_back}
-use Rattle.lab_report.proofs.PlaceLaws.{Differ, none_differ}
+use Rattle.report_names.proofs.PlaceLaws.{Differ, none_differ}
 use Rattle.lab_report.proofs.Ranges.{both_back, leb_back, match_back, pays_back}
 use Rattle.lab_report.proofs.States.{IsSoundBody, table_of, one_line}
 use Rattle.lab_report.proofs.TableLaws.{IsRanked, all_in_range, ranked_back, listed_all, unlisted_back, counted_back, unnamed_again, entry_back}

@@ -1,7 +1,6 @@
 pub mod DrillRules
 pub mod Grammar
 pub mod MatchRules
-pub mod Names
 pub mod OneWay
 pub mod Pieces
 pub mod Read

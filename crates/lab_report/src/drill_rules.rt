@@ -1,14 +1,13 @@
 //! What may follow in the report of a drill.
-ghost use Rattle.std.specs.Prelude.{◌≡◌, ◌<◌, ◌-◌, ◌^◌, length, IfOk, OnOk};
-ghost use Rattle.lab_report.specs.DrillRules.{HasDrillRoom, after_drill, drill_allows, with_first};
-ghost use Rattle.lab_report.specs.Names.{with_name};
-ghost use Rattle.lab_report.specs.Valid.{drill_game};
+ghost use Rattle.std.specs.Prelude.{◌≡◌, IfOk};
+ghost use Rattle.lab_report.specs.DrillRules.{HasDrillRoom, after_drill, drill_allows};
+ghost use Rattle.lab_report.specs.Valid.{drill_game, drill_head};
 ghost use Rattle.history_model.specs.Noise.{no_noise};
 
 use crate::state::{DrillSoFar, State};
-use crate::{Body, Leaders, Names};
+use crate::{Body, Head, Leaders, Names, Noises};
 use history_model::{Game, NoMemory, Noise};
-use report_lines::{Line, ShownFirst};
+use report_lines::Line;
 use std::alloc::Global;
 
 /// The game of every drill.
@@ -30,6 +29,17 @@ pub fn no_noise() -> Noise
     Noise { n: 0, e: 1 }
 }
 
+fn drill_head() -> Head
+    ensures { result ≡ drill_head }
+{
+    Head {
+        version: 1,
+        offset: 0,
+        game: drill_game(),
+        noise: no_noise(),
+    }
+}
+
 /// Whether a line may stand behind those of a drill.
 pub(crate) fn drill_allows(drill: &DrillSoFar, next: &Line) -> bool
     ensures { result ≡ drill_allows drill.now next.now }
@@ -41,18 +51,6 @@ pub(crate) fn drill_allows(drill: &DrillSoFar, next: &Line) -> bool
         (DrillSoFar::Summed { .. }, Line::End) => true,
         _ => false,
     }
-}
-
-// The machines with one more, whose name comes behind all others where it is new.
-fn with_first(names: &mut Names, first: Leaders, found: &ShownFirst) -> Result<Leaders, NoMemory>
-    requires { length names.old < 2 ^ 32 - 1 }
-    ensures first { IfOk result (λ more. more ≡ with_first names.old first found.now) }
-    ensures names { OnOk result (names.new ≡ with_name names.old found.now.name) }
-{
-    let place = names.place(&found.name)?;
-    let mut items = first.into_vec();
-    items.push((place, found.total))?;
-    Ok(Leaders::from_vec(items))
 }
 
 /// What a line behind those of a drill leaves.
@@ -74,7 +72,8 @@ pub(crate) fn after_drill(
             })
         }
         (DrillSoFar::Numbered { number, first }, Line::First(found)) => {
-            let first = with_first(&mut names, first, &found)?;
+            let place = names.place(&found.name)?;
+            let first = first.with(place, found.total)?;
             Ok(State::InDrill {
                 names,
                 drill: DrillSoFar::Numbered { number, first },
@@ -85,8 +84,8 @@ pub(crate) fn after_drill(
             drill: DrillSoFar::Summed { number, first, sum },
         }),
         (DrillSoFar::Summed { number, first, sum }, Line::End) => Ok(State::Ended {
-            game: drill_game(),
-            noise: no_noise(),
+            head: drill_head(),
+            noises: Noises::from_vec(Vec::new(alloc)),
             names,
             body: Body::Drill { number, first, sum },
         }),

@@ -2,10 +2,9 @@
 #![tactic(auto)]
 
 mod drill_rules;
-mod laws;
 mod lines;
-mod lists;
 mod match_rules;
+mod own_rules;
 mod pieces;
 mod reading;
 mod report;
@@ -16,9 +15,8 @@ mod table_rules;
 mod writing;
 
 pub use drill_rules::{drill_game, no_noise};
-pub use laws::{names_grow, one_report_a_text};
-pub use lists::{Leaders, Names, Noises, Places, place_in};
 pub use pieces::Pieces;
-pub use reading::{ReportError, read_report};
-pub use report::{Body, Report};
+pub use reading::{ReportError, one_report_a_text, read_report};
+pub use report::{Body, Head, Report};
+pub use report_names::{Leaders, Names, Noises, Places, names_grow, place_in};
 pub use writing::write_report;

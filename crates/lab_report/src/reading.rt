@@ -1,4 +1,4 @@
-//! Reads reports.
+//! Reads reports, each from its one text.
 ghost use Rattle.std.specs.Prelude.{ℕ, ◌≡◌, ◌-◌, ◌<◌, ◌^◌, false, length, IfOk, IfSome, IfNone};
 ghost use Rattle.texts.specs.Grammar.{pieces, read_on};
 ghost use Rattle.report_lines.specs.Reading.{line_of};
@@ -6,13 +6,13 @@ ghost use Rattle.lab_report.specs.declared.report.Report.{Report};
 ghost use Rattle.lab_report.specs.declared.reading.ReportError.TheVariants.{NoMemory};
 ghost use Rattle.lab_report.specs.declared.state.State.TheVariants.{Start};
 ghost use Rattle.lab_report.specs.Grammar.{grammar, is_ended};
-ghost use Rattle.lab_report.specs.Read.{Gives, IfBad, IsBadLine, IsFirstVersion, Reading, Refuses, whole};
+ghost use Rattle.lab_report.specs.Read.{Gives, IfBad, IsBadLine, Reading, Refuses, whole};
 ghost use Rattle.lab_report.specs.Text.{report_text};
-ghost use Rattle.lab_report.specs.Valid.{IsValid};
+ghost use Rattle.lab_report.specs.Valid.{IsValid, OneReportAText};
 
 use crate::rules::{after, allows};
 use crate::state::State;
-use crate::{Noises, Report};
+use crate::Report;
 use report_lines::{Line, line_of, lines_are_exact};
 use std::alloc::{AllocError, Global};
 use texts::{first_line, lines_are_read_in_turn, reading_is_exact, refusal_is_exact};
@@ -44,23 +44,22 @@ impl From<history_model::NoMemory> for ReportError {
 }
 
 // The report that all lines led to; `None` where its last line is missing.
-fn report_of(alloc: Global, state: State) -> Option<Report>
+fn report_of(state: State) -> Option<Report>
     ensures whole { IfSome result (λ report. state ≡ whole report) }
-    ensures version { IfSome result IsFirstVersion }
     ensures missing { IfNone result (is_ended state ≡ false) }
 {
     match state {
         State::Ended {
-            game,
-            noise,
+            head,
+            noises,
             names,
             body,
         } => Some(Report {
-            version: 1,
-            offset: 0,
-            game,
-            noise,
-            noises: Noises::from_vec(Vec::new(alloc)),
+            version: head.version,
+            offset: head.offset,
+            game: head.game,
+            noise: head.noise,
+            noises,
             names,
             body,
         }),
@@ -72,7 +71,6 @@ fn report_of(alloc: Global, state: State) -> Option<Report>
 fn read_lines(alloc: Global, bytes: &[u8]) -> Result<Report, ReportError>
     requires length { length bytes.now < 2 ^ 32 - 1 }
     ensures reading { Reading result (read_on grammar line_of Start 1 (pieces bytes.now)) }
-    ensures version { IfOk result IsFirstVersion }
 {
     lines_are_read_in_turn::<State, Line>();
     let mut buffer = String::new(alloc);
@@ -94,7 +92,7 @@ fn read_lines(alloc: Global, bytes: &[u8]) -> Result<Report, ReportError>
     if !rest.is_empty() {
         return Err(ReportError::BadLine(number));
     }
-    match report_of(alloc, state) {
+    match report_of(state) {
         Some(report) => Ok(report),
         None => Err(ReportError::BadLine(number)),
     }
@@ -117,4 +115,13 @@ pub fn read_report(alloc: Global, bytes: &[u8]) -> Result<Report, ReportError>
     reading_is_exact::<State, Line>();
     refusal_is_exact::<State, Line>();
     read_lines(alloc, bytes)
+}
+
+/// The law of texts: two valid reports with one text are equal.
+pub fn one_report_a_text()
+    ensures { OneReportAText }
+{
+    lines_are_exact();
+    reading_is_exact::<State, Line>();
+    refusal_is_exact::<State, Line>();
 }

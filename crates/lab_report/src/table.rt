@@ -43,13 +43,12 @@ impl Table {
     pub(crate) fn with_entry(self, place: u32, entry: EntryLine) -> Result<Table, NoMemory>
         ensures { IfOk result (λ table. table ≡ record { matches = self.matches; who = self.who ++ place ∷ []; entries = self.entries ++ entry ∷ [] }) }
     {
-        let mut who = self.who.into_vec();
+        let who = self.who.with(place)?;
         let mut entries = self.entries.into_vec();
-        who.push(place)?;
         entries.push(entry)?;
         Ok(Table {
             matches: self.matches,
-            who: Places::from_vec(who),
+            who,
             entries: EntryLines::from_vec(entries),
         })
     }

@@ -4,17 +4,17 @@ ghost use Rattle.report_lines.specs.Texts.{is_line, is_match};
 ghost use Rattle.result_lines.specs.Totals.{AreSummable, total_of, wins_of, undecided_of};
 ghost use Rattle.result_lines.specs.Ranks.{rank_of};
 ghost use Rattle.lab_report.specs.Room.{HasTableRoom};
-ghost use Rattle.lab_report.specs.Names.{place_in};
-ghost use Rattle.lab_report.specs.TableRules.{rank_read, unnamed, same_ends, adds_up, is_listed, are_listed, totals_in, same_rank, ranked_from, are_ranked, match_fits, entry_fits, is_whole, with_match, with_entry, table_allows, after_table};
+ghost use Rattle.report_names.specs.Names.{place_in};
+ghost use Rattle.lab_report.specs.TableRules.{rank_read, unnamed, adds_up, totals_in, same_rank, ranked_from, are_ranked, match_fits, entry_fits, is_whole, with_match, with_entry, table_allows, after_table};
 
-use crate::Body;
-use crate::lists::{Names, place_in};
-use crate::match_rules::{pays, placed_match};
+use crate::match_rules::{is_scored, placed_match, same_ends};
 use crate::state::{BodySoFar, State};
 use crate::table::Table;
+use crate::{Body, Head, Names, place_in};
 use fixed_span::Span;
-use history_model::{Game, NoMemory, Noise};
+use history_model::NoMemory;
 use report_lines::{Line, ShownEntry, ShownMatch};
+use report_names::OwnNoises;
 use result_lines::{EntryLine, MatchLine, Rank, rank_of, total_of, undecided_of, wins_of};
 use std::alloc::Global;
 
@@ -39,14 +39,6 @@ fn unnamed(entry: &ShownEntry) -> EntryLine
     }
 }
 
-fn same_ends(a: Span, b: Span) -> bool
-    ensures { result ≡ same_ends a b }
-{
-    let (a_lo, a_hi) = a.ends();
-    let (b_lo, b_hi) = b.ends();
-    a_lo == b_lo && a_hi == b_hi
-}
-
 fn adds_up(matches: &[MatchLine], place: u32, entry: &ShownEntry) -> bool
     requires few { length matches.now ≤ 2080 }
     requires scores { All AreSummable matches.now }
@@ -55,18 +47,6 @@ fn adds_up(matches: &[MatchLine], place: u32, entry: &ShownEntry) -> bool
     same_ends(entry.total, total_of(matches, place))
         && (entry.wins == wins_of(matches, place)
             && entry.undecided == undecided_of(matches, place))
-}
-
-fn is_listed(who: &[u32], place: u32) -> bool
-    ensures { result ≡ is_listed who.now place }
-{
-    who.contains(&place)
-}
-
-fn are_listed(count: u32, who: &[u32]) -> bool
-    ensures { result ≡ are_listed count who.now }
-{
-    (0..count).all(|place| is_listed(who, place))
 }
 
 fn totals_in(alloc: Global, entries: &[EntryLine]) -> Result<Vec<Span>, NoMemory>
@@ -89,15 +69,6 @@ fn same_rank(a: Rank, b: Rank) -> bool
     }
 }
 
-// Whether the rank of a line is the one by all totals, of which its own stands at the place.
-fn is_ranked(totals: &[Span], place: u32, entry: &EntryLine) -> bool
-    requires few { length totals.now ≤ 64 }
-    requires inside { place < length totals.now }
-    ensures { result ≡ same_rank entry.now.rank (rank_of totals.now place) }
-{
-    same_rank(entry.rank, rank_of(totals, place))
-}
-
 fn all_ranked(totals: &[Span], entries: &[EntryLine]) -> bool
     requires few { length totals.now ≤ 64 }
     requires long { length entries.now ≤ length totals.now }
@@ -105,7 +76,7 @@ fn all_ranked(totals: &[Span], entries: &[EntryLine]) -> bool
 {
     let mut place: u32 = 0;
     for entry in entries {
-        if !is_ranked(totals, place, entry) {
+        if !same_rank(entry.rank, rank_of(totals, place)) {
             return false;
         }
         place += 1;
@@ -122,13 +93,14 @@ fn are_ranked(alloc: Global, entries: &[EntryLine]) -> Result<bool, NoMemory>
     Ok(all_ranked(&totals, entries))
 }
 
-fn match_fits(game: &Game, table: &Table, found: &ShownMatch) -> bool
-    requires { is_match found.now ≡ true }
-    ensures { result ≡ match_fits game.now table.now found.now }
+fn match_fits(head: &Head, table: &Table, found: &ShownMatch) -> bool
+    requires offset { head.now.offset ≤ 1000000 }
+    requires line { is_match found.now ≡ true }
+    ensures { result ≡ match_fits head.now table.now found.now }
 {
     table.entries.as_slice().is_empty()
         && table.matches.as_slice().len() < 2080
-        && pays(game, found, &found.tally)
+        && is_scored(head, found)
 }
 
 fn entry_fits(names: &Names, table: &Table, entry: &ShownEntry) -> bool
@@ -137,7 +109,7 @@ fn entry_fits(names: &Names, table: &Table, entry: &ShownEntry) -> bool
 {
     let place = place_in(names.as_slice(), &entry.name);
     table.entries.as_slice().len() < 64
-        && !is_listed(table.who.as_slice(), place)
+        && !table.who.has(place)
         && adds_up(table.matches.as_slice(), place, entry)
 }
 
@@ -151,23 +123,24 @@ fn is_whole(alloc: Global, names: &Names, table: &Table) -> Result<bool, NoMemor
         return Ok(false);
     }
     let count = names.as_slice().len() as u32;
-    Ok(are_listed(count, table.who.as_slice()))
+    Ok(table.who.has_all(count))
 }
 
 /// Whether a line may stand behind those of a table.
 pub(crate) fn table_allows(
     alloc: Global,
-    game: &Game,
+    head: &Head,
     names: &Names,
     table: &Table,
     next: &Line,
 ) -> Result<bool, NoMemory>
+    requires offset { head.now.offset ≤ 1000000 }
     requires line { is_line next.now ≡ true }
     requires room { HasTableRoom names.now table.now }
-    ensures { IfOk result (λ allowed. allowed ≡ table_allows game.now names.now table.now next.now) }
+    ensures { IfOk result (λ allowed. allowed ≡ table_allows head.now names.now table.now next.now) }
 {
     match next {
-        Line::Match(found) => Ok(match_fits(game, table, found)),
+        Line::Match(found) => Ok(match_fits(head, table, found)),
         Line::Entry(entry) => Ok(entry_fits(names, table, entry)),
         Line::End => is_whole(alloc, names, table),
         _ => Ok(false),
@@ -176,14 +149,14 @@ pub(crate) fn table_allows(
 
 /// What a line behind those of a table leaves.
 pub(crate) fn after_table(
-    game: Game,
-    noise: Noise,
+    head: Head,
+    own: OwnNoises,
     mut names: Names,
     table: Table,
     next: Line,
 ) -> Result<State, NoMemory>
     requires { HasTableRoom names table }
-    ensures { IfOk result (λ state. state ≡ after_table game noise names table next) }
+    ensures { IfOk result (λ state. state ≡ after_table head own names table next) }
 {
     let table = match next {
         Line::Match(found) => {
@@ -196,8 +169,8 @@ pub(crate) fn after_table(
         }
         Line::End => {
             return Ok(State::Ended {
-                game,
-                noise,
+                head,
+                noises: own.noises,
                 names,
                 body: Body::Tournament {
                     matches: table.matches,
@@ -209,8 +182,8 @@ pub(crate) fn after_table(
         _ => table,
     };
     Ok(State::InBody {
-        game,
-        noise,
+        head,
+        own,
         names,
         body: BodySoFar::Tournament { table },
     })

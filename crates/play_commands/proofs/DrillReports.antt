@@ -14,7 +14,7 @@ use Rattle.result_lines.specs.declared.tables.EntryLine.{EntryLine}
 use Rattle.round_robin.specs.Asked.{AreAsked, bench_turns}
 use Rattle.round_robin.specs.Truth.{nothing, true_rank}
 use Rattle.lab_report.specs.declared.report.Report.{Report}
-use Rattle.lab_report.specs.Names.{name_at}
+use Rattle.report_names.specs.Names.{name_at}
 use Rattle.lab_report.specs.Text.{report_text}
 use Rattle.lab_report.specs.Valid.{IsFirstOf, IsTotal, IsValid, first_names}
 use Rattle.report_making.specs.Made.{ShowsFirst, drill_report_of, first_order, moved_first}

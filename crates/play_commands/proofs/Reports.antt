@@ -8,7 +8,7 @@ use Rattle.player_core.specs.State.{Lasting}
 use Rattle.player_core.specs.Fits.{SidesFit}
 use Rattle.result_lines.specs.declared.line.MatchLine.{MatchLine}
 use Rattle.lab_report.specs.declared.report.Report.{Report}
-use Rattle.lab_report.specs.Names.{name_at}
+use Rattle.report_names.specs.Names.{name_at}
 use Rattle.lab_report.specs.Text.{report_text}
 use Rattle.lab_report.specs.Valid.{IsValid}
 use Rattle.report_making.specs.Made.{names_of_pair, match_report_of}

@@ -14,7 +14,7 @@ use Rattle.sheet_rules.specs.Entrants.{Entrant, entrant_at, entrants_of, expects
 use Rattle.round_robin.specs.Truth.{true_totals}
 use Rattle.round_robin.specs.Entries.{AreRightEntries, AreRightLines, EntriesAskedOn, IsRightAmong, totals_by_rule}
 use Rattle.lab_report.specs.declared.report.Report.{Report}
-use Rattle.lab_report.specs.Names.{name_at}
+use Rattle.report_names.specs.Names.{name_at}
 use Rattle.lab_report.specs.Text.{report_text, shown_match}
 use Rattle.lab_report.specs.Valid.{IsValid}
 use Rattle.report_making.specs.Made.{ShowsNames, moved_match, moved_matches, names_in_order, places_in, tournament_report_of}

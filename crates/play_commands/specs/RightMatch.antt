@@ -4,7 +4,7 @@ use Rattle.player_core.specs.State.{BenchState, Lasting}
 use Rattle.result_lines.specs.declared.line.MatchLine.{MatchLine}
 use Rattle.lab_report.specs.declared.report.Body.TheVariants as bodies
 use Rattle.lab_report.specs.declared.report.Report.{Report}
-use Rattle.lab_report.specs.Names.{name_at}
+use Rattle.report_names.specs.Names.{name_at}
 use Rattle.lab_report.specs.Text.{report_text}
 use Rattle.lab_report.specs.Valid.{IsValid}
 use Rattle.job_tables.specs.declared.jobs.MatchJob.{MatchJob}

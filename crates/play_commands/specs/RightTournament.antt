@@ -12,7 +12,7 @@ use Rattle.result_lines.specs.declared.tables.EntryLine.{EntryLine}
 use Rattle.round_robin.specs.Truth.{true_totals}
 use Rattle.lab_report.specs.declared.report.Body.TheVariants as bodies
 use Rattle.lab_report.specs.declared.report.Report.{Report}
-use Rattle.lab_report.specs.Names.{name_at}
+use Rattle.report_names.specs.Names.{name_at}
 use Rattle.lab_report.specs.Text.{report_text}
 use Rattle.lab_report.specs.Valid.{IsValid}
 use Rattle.job_tables.specs.declared.tournament.TournamentJob.{TournamentJob}

@@ -21,7 +21,7 @@ use Rattle.result_lines.specs.Ranks.{rank_of, ranks_of}
 use Rattle.result_lines.specs.Totals.{own_score, total_of, totals_of, wins_match, leaves_undecided, entry_of, entries_of}
 use Rattle.lab_report.specs.declared.report.Body.TheVariants as bodies
 use Rattle.lab_report.specs.declared.report.Report.{Report}
-use Rattle.lab_report.specs.Names.{NamesGrow, name_at, with_name, with_names, place_in}
+use Rattle.report_names.specs.Names.{NamesGrow, name_at, with_name, with_names, place_in}
 use Rattle.lab_report.specs.Text.{shown_match}
 use Rattle.lab_report.specs.Valid.{IsCounted, IsCountedIn, IsMatchOf, IsOnceEach, IsTable, IsValid, match_names}
 use Rattle.report_making.specs.Made.{AreResults, ShowsNames, moved_match, moved_matches, names_in_order, places_in, tournament_report_of}

@@ -7,7 +7,7 @@ use Rattle.result_lines.specs.declared.tables.Totals.{Totals}
 use Rattle.result_lines.specs.Totals.{entries_of}
 use Rattle.lab_report.specs.declared.report.Body.TheVariants as bodies
 use Rattle.lab_report.specs.declared.report.Report.{Report}
-use Rattle.lab_report.specs.Names.{name_at, place_in, with_names}
+use Rattle.report_names.specs.Names.{name_at, place_in, with_names}
 use Rattle.lab_report.specs.Text.{shown_match}
 use Rattle.lab_report.specs.Valid.{IsMatchOf, drill_game, first_names, match_names}
 

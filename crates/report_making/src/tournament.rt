@@ -2,7 +2,7 @@
 ghost use Rattle.std.specs.Prelude.{◌≡◌, ◌≢◌, ◌+◌, ◌*◌, ◌-◌, ◌^◌, ◌<◌, ◌≤◌, [], All, length, map, IfOk};
 ghost use Rattle.std.specs.List.{AllPairs};
 ghost use Rattle.history_model.specs.Name.{IsName};
-ghost use Rattle.lab_report.specs.Names.{with_names};
+ghost use Rattle.report_names.specs.Names.{with_names};
 ghost use Rattle.lab_report.specs.Valid.{IsValid, match_names};
 ghost use Rattle.report_making.specs.Made.{AreResults, ShowsNames, moved_match, moved_matches, names_in_order, places_in, tournament_report_of};
 

@@ -1,7 +1,7 @@
 use Rattle.std.proofs.Common.{◌≡◌, ◌≤◌, [], length, drop, take}
 use Rattle.std.specs.List.{All}
 use Rattle.history_model.specs.Name.{IsName}
-use Rattle.lab_report.specs.Names.{with_names}
+use Rattle.report_names.specs.Names.{with_names}
 use Rattle.lab_report.specs.Valid.{first_names}
 use Rattle.report_making.proofs.drill.first_order.Given as goal
 

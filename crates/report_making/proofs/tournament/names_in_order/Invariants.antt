@@ -1,7 +1,7 @@
 use Rattle.std.proofs.Common.{◌≡◌, ◌+◌, ◌*◌, ◌≤◌, length, drop}
 use Rattle.std.specs.List.{AllWithin}
 use Rattle.history_model.specs.Name.{IsName}
-use Rattle.lab_report.specs.Names.{with_names}
+use Rattle.report_names.specs.Names.{with_names}
 use Rattle.report_making.specs.Made.{names_in_order}
 use Rattle.report_making.proofs.tournament.names_in_order.Given as goal
 

@@ -1,5 +1,5 @@
 use Rattle.std.proofs.Common.{◌≡◌, ◌*◌, ◌≤◌, [], length, drop}
-use Rattle.lab_report.specs.Names.{with_names}
+use Rattle.report_names.specs.Names.{with_names}
 use Rattle.lab_report.specs.Valid.{match_names}
 use Rattle.report_making.proofs.tournament.names_of_matches.Given as goal
 

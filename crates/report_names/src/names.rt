@@ -1,8 +1,8 @@
-//! Lists of a report.
-ghost use Rattle.std.specs.Prelude.{◌≡◌, ◌<◌, ◌^◌, ◌-◌, ◌++◌, ◌∷◌, [], length, IfOk, OnErr, OnOk};
-ghost use Rattle.lab_report.specs.Names.{name_at, place_in, with_name};
+//! Names of a report, and their places.
+ghost use Rattle.std.specs.Prelude.{◌≡◌, ◌<◌, ◌^◌, ◌-◌, ◌++◌, ◌∷◌, ◌&&◌, ◌||◌, nat_lt, bytes_eq, [], length, IfOk, OnErr, OnOk};
+ghost use Rattle.report_names.specs.Names.{both_come, comes, is_among, name_at, place_in, with_name};
 
-use history_model::{Name, Noise};
+use history_model::Name;
 use std::alloc::{AllocFailed, Global};
 use std::marker::Model;
 
@@ -60,11 +60,43 @@ impl Names {
     }
 
     /// The name at a place.
-    pub(crate) fn at(&self, place: u32) -> &Name
+    pub fn at(&self, place: u32) -> &Name
         requires { place < length self.now }
         ensures { result.now ≡ name_at self.now place }
     {
         &self.items[place as usize]
+    }
+
+    /// Whether a name is one of them.
+    pub fn has(&self, name: &Name) -> bool
+        ensures { result ≡ is_among name.now self.now }
+    {
+        self.items.iter().any(|other| other.bytes() == name.bytes())
+    }
+
+    // Whether a name stands at a place.
+    fn stands_at(&self, place: usize, name: &Name) -> bool
+        ensures { result ≡ (nat_lt place (length self.now) && bytes_eq (name_at self.now place) name.now) }
+    {
+        place < self.items.len() && self.items[place].bytes() == name.bytes()
+    }
+
+    /// Whether a name is one of those that were shown, or the next of these behind them.
+    pub fn comes(&self, shown: &Names, name: &Name) -> bool
+        ensures { result ≡ comes self.now shown.now name.now }
+    {
+        shown.has(name) || self.stands_at(shown.items.len(), name)
+    }
+
+    /// The same of two names, of which the second is shown behind the first.
+    #[tactic(auto, using(crate::proofs::Coming::both_old, crate::proofs::Coming::both_new))]
+    pub fn both_come(&self, shown: &Names, first: &Name, second: &Name) -> bool
+        ensures { result ≡ both_come self.now shown.now first.now second.now }
+    {
+        let count = shown.items.len();
+        let next = if shown.has(first) { count } else { count + 1 };
+        let is_old = shown.has(second) || first.bytes() == second.bytes();
+        self.comes(shown, first) && (is_old || self.stands_at(next, second))
     }
 
     /// The place of a name, which comes behind the others where it is new.
@@ -102,117 +134,4 @@ pub fn place_in(names: &[Name], name: &Name) -> u32
         place += 1;
     }
     place
-}
-
-/// Places in names, in order. Contracts see them as their list.
-#[derive(Drop)]
-pub struct Places {
-    items: Vec<u32>,
-}
-
-impl Model for Places {
-    ghost use Rattle.std.specs.Prelude.{ℕ, List};
-
-    ghost Value = { List ℕ };
-
-    ghost view = { λ s. s.items.items };
-}
-
-impl Places {
-    /// The places of this list.
-    pub fn from_vec(items: Vec<u32>) -> Places
-        ensures { result ≡ items.items }
-    {
-        Places { items }
-    }
-
-    /// The list back.
-    pub fn into_vec(self) -> Vec<u32>
-        ensures { result.items ≡ self }
-    {
-        self.items
-    }
-
-    /// The places as a slice.
-    pub fn as_slice(&self) -> &[u32]
-        ensures { result.now ≡ self.now }
-    {
-        &self.items
-    }
-}
-
-/// Machines of the first rank, by their places in names, each with its total in units of 10^-12.
-/// Contracts see them as their list.
-#[derive(Drop)]
-pub struct Leaders {
-    items: Vec<(u32, i128)>,
-}
-
-impl Model for Leaders {
-    ghost use Rattle.std.specs.Prelude.{ℕ, ℤ, List};
-
-    ghost Value = { List (ℕ × ℤ) };
-
-    ghost view = { λ s. s.items.items };
-}
-
-impl Leaders {
-    /// The machines of this list.
-    pub fn from_vec(items: Vec<(u32, i128)>) -> Leaders
-        ensures { result ≡ items.items }
-    {
-        Leaders { items }
-    }
-
-    /// The list back.
-    pub fn into_vec(self) -> Vec<(u32, i128)>
-        ensures { result.items ≡ self }
-    {
-        self.items
-    }
-
-    /// The machines as a slice.
-    pub fn as_slice(&self) -> &[(u32, i128)]
-        ensures { result.now ≡ self.now }
-    {
-        &self.items
-    }
-}
-
-/// Noises, in order. Contracts see them as their list.
-#[derive(Drop)]
-pub struct Noises {
-    items: Vec<Noise>,
-}
-
-impl Model for Noises {
-    ghost use Rattle.std.specs.Prelude.{List};
-    ghost use Rattle.history_model.specs.Noise.{FlipRate};
-
-    ghost Value = { List FlipRate };
-
-    ghost view = { λ s. s.items.items };
-}
-
-impl Noises {
-    /// The noises of this list.
-    pub fn from_vec(items: Vec<Noise>) -> Noises
-        ensures { result ≡ items.items }
-    {
-        Noises { items }
-    }
-
-    /// The list back.
-    pub fn into_vec(self) -> Vec<Noise>
-        ensures { result.items ≡ self }
-    {
-        self.items
-    }
-
-    /// The noises as a slice.
-    pub fn as_slice(&self) -> &[Noise]
-        ensures { result.now ≡ self.now }
-    {
-        &self.items
-    }
 }

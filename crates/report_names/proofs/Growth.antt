@@ -1,14 +1,9 @@
 -- Names that grow: what stands in them stays.
-use Rattle.std.proofs.Common.{◌≡◌, ℕ, suc, ◌+◌, ◌<◌, ◌≤◌, List, [], ◌∷◌, ◌++◌, length, map, refl, sym, ap, ◌∙◌, arith, length-append}
+use Rattle.std.proofs.Common.{◌≡◌, ℕ, suc, ◌+◌, ◌<◌, ◌≤◌, List, [], ◌∷◌, ◌++◌, length, refl, sym, ◌∙◌, arith, length-append}
 use Rattle.std.specs.List.{All, Contains}
 use Rattle.std.proofs.lemmas.List.Elements.{All-cons, All-contains_itself, All-nil}
-use Rattle.result_lines.specs.declared.line.MatchLine.{MatchLine}
-use Rattle.result_lines.specs.declared.tables.EntryLine.{EntryLine}
-use Rattle.history_model.specs.Game.{Payoffs}
-use Rattle.lab_report.specs.Names.{name_at, with_name, with_names, place_in}
-use Rattle.lab_report.specs.Text.{shown_match, match_lines, entry_lines}
-use Rattle.lab_report.specs.Valid.{IsMatchOf, match_names}
-use Rattle.lab_report.proofs.PlaceLaws.{Differ, either, is_old, longer, name_stays, none_differ, place_below, place_new, with_all, with_differ, with_moves_none}
+use Rattle.report_names.specs.Names.{name_at, with_name, with_names, place_in}
+use Rattle.report_names.proofs.PlaceLaws.{Differ, either, is_old, longer, name_stays, none_differ, place_below, place_new, with_all, with_differ, with_moves_none}
 
 -- ---- elements
 
@@ -78,41 +73,3 @@ no_other xs = both_hold (Contains xs) [] xs (All-nil (Contains xs)) (All-contain
 
 pub gathered_differ : (xs : List (List ℕ)) → Differ (with_names [] xs)
 gathered_differ xs = all_differ [] xs none_differ
-
--- ---- lines show the names that they showed
-
-match_stays : (names more : List (List ℕ)) → Grows names more → (count : ℕ) (game : Payoffs) (line : MatchLine) → count ≡ length names → IsMatchOf count game line → shown_match more line ≡ shown_match names line
-match_stays names more g count game line e v = rw (g.stays line.left (omega (arith, e, v.left)), g.stays line.right (omega (arith, e, v.right))) refl
-
-pub matches_stay : (names more : List (List ℕ)) → Grows names more → (game : Payoffs) (ms : List MatchLine) → All (IsMatchOf (length names) game) ms → match_lines more ms ≡ match_lines names ms
-matches_stay names more g game [] all = refl
-matches_stay names more g game (m ∷ ms) all =
-    rw (
-      match_stays names more g (length names) game m refl (all_head (IsMatchOf (length names) game) m ms all),
-      matches_stay names more g game ms (all_tail (IsMatchOf (length names) game) m ms all),
-    ) refl
-
-pub match_names_stay : (names more : List (List ℕ)) → Grows names more → (game : Payoffs) (ms : List MatchLine) → All (IsMatchOf (length names) game) ms → match_names more ms ≡ match_names names ms
-match_names_stay names more g game [] all = refl
-match_names_stay names more g game (m ∷ ms) all =
-    let v = all_head (IsMatchOf (length names) game) m ms all in
-    rw (g.stays m.left v.left, g.stays m.right v.right, match_names_stay names more g game ms (all_tail (IsMatchOf (length names) game) m ms all)) refl
-
-abbrev IsBelow : ℕ → ℕ → Type 0
-IsBelow count place = place < count
-
-pub who_stay : (names more : List (List ℕ)) → Grows names more → (who : List ℕ) → All (IsBelow (length names)) who → map (name_at more) who ≡ map (name_at names) who
-who_stay names more g [] all = refl
-who_stay names more g (p ∷ ps) all =
-    rw (g.stays p (all_head (IsBelow (length names)) p ps all), who_stay names more g ps (all_tail (IsBelow (length names)) p ps all)) refl
-
-pub entries_stay : (names more : List (List ℕ)) → Grows names more → (who : List ℕ) (es : List EntryLine) → All (IsBelow (length names)) who → entry_lines more who es ≡ entry_lines names who es
-entries_stay names more g [] [] all = refl
-entries_stay names more g [] (e ∷ es) all = refl
-entries_stay names more g (p ∷ ps) [] all = refl
-entries_stay names more g (p ∷ ps) (e ∷ es) all =
-    rw (g.stays p (all_head (IsBelow (length names)) p ps all), entries_stay names more g ps es (all_tail (IsBelow (length names)) p ps all)) refl
-
-pub match_names_then : (names : List (List ℕ)) (ms ns : List MatchLine) → match_names names (ms ++ ns) ≡ match_names names ms ++ match_names names ns
-match_names_then names [] ns = refl
-match_names_then names (m ∷ ms) ns = ap (λ (xs : List (List ℕ)). name_at names m.left ∷ name_at names m.right ∷ xs) (match_names_then names ms ns)
