@@ -467,8 +467,8 @@ fn is_first(first: &ShownFirst) -> bool
     are_points(first.total)
 }
 
-// Whether a line may stand in a report of version 1 or 2. That version 1 has no payoff, score or total
-// below 0, and no payoffs far apart in version 2, is the report's to test.
+// Whether a line may stand in a report of some version. The rest is the report's to test: in version 1 no
+// payoff, score or total is below 0, and in version 2 no two payoffs are too far apart.
 fn is_line(line: &Line) -> bool
     ensures { result ≡ is_line line.now }
 {
