@@ -14,7 +14,7 @@ use Rattle.player_core.specs.Laws.{EntriesPlay}
 use Rattle.product_chain.specs.Expected.{IsSureMatch}
 use Rattle.result_lines.specs.declared.line.MatchLine.{MatchLine}
 use Rattle.sheet_rules.specs.declared.contestant.Contestant.{Contestant}
-use Rattle.sheet_rules.specs.Entrants.{Entrant, automaton_of_entrant, entrant_of, entrants_of, rule_player}
+use Rattle.sheet_rules.specs.Entrants.{Entrant, automaton_of_entrant, entrant_of, entrants_of, no_entrant, rule_player}
 use Rattle.sheet_rules.specs.Laws.{EntrantsFollowTheirRules}
 use Rattle.sheet_rules.specs.RightLine.{IsRightLine}
 use Rattle.match_play.specs.Known.{IsKnown}
@@ -23,8 +23,8 @@ use Rattle.result_lines.specs.declared.tables.Totals.{Totals}
 use Rattle.result_lines.specs.Totals.{entries_of}
 use Rattle.round_robin.specs.OnBench.{AreAskedOn, AtMostForOn}
 use Rattle.round_robin.specs.Asked.{AreAsked, AtMostTurns, bench_turns, most_for}
-use Rattle.round_robin.specs.Contest.{AreContestants, AreFewTurns, ArePairs, IsShort, IsSureStrategy, Strategy, entrant_strategies, strategies_of, strategy_of, strategy_of_entrant}
-use Rattle.round_robin.specs.Entries.{AreEntries, AreRightEntries, EntriesAreTrue, EntriesAskedOn, EntriesAtMostOn, IsEntry, IsGridOf, IsTrueByRule, totals_by_rule}
+use Rattle.round_robin.specs.Contest.{AreContestants, AreFewTurns, ArePairs, IsShort, IsSureStrategy, Strategy, entrant_strategies, no_strategy, strategies_of, strategy_of, strategy_of_entrant}
+use Rattle.round_robin.specs.Entries.{AreEntries, AreRightEntries, EntriesAreTrue, EntriesAskedOn, EntriesAtMostOn, IsEntry, IsGridOf, IsShortPair, IsTrueByRule, totals_by_rule}
 use Rattle.round_robin.specs.Laws.{AreSides, IsInRange, LinesHold}
 use Rattle.round_robin.specs.Line.{IsLineOf}
 use Rattle.round_robin.specs.Totals.{AreLines}
@@ -71,22 +71,15 @@ module _ (law : EntriesPlay) (old mid : BenchState) (kept : KeepsBench old mid) 
       (subst (λ a. P a (entry_automaton (players_of mid) right)) (same_automaton left) after)
 
   -- the line of a match on the bench that was asked
-  pub right_line : EntriesAreTrue → (left right : Entrant) (game : Payoffs) (turns : ℕ) (line : MatchLine) → IsEntry (players_of old) left → IsEntry (players_of old) right → line.turns ≡ turns
-      → AreSides (entry_automaton (players_of mid) left.sheet) left.noise (entry_automaton (players_of mid) right.sheet) right.noise
-      → IsLineOf (entry_automaton (players_of mid) left.sheet) left.noise (entry_automaton (players_of mid) right.sheet) right.noise game turns line
-      → IsRightLine (players_of old) game 0 left right line
-  right_line true_of left right game turns line left_is right_is turns_are sides is =
-      let there : IsLineOf (entry_automaton (players_of mid) left.sheet) left.noise (entry_automaton (players_of mid) right.sheet) right.noise game line.turns line = rw (← turns_are) at is in
-      true_of.line (players_of old) left right game line left_is.valid right_is.valid
-      (before left.sheet right.sheet (λ a b. AreSides a left.noise b right.noise) sides)
-      (before left.sheet right.sheet (λ a b. IsLineOf a left.noise b right.noise game line.turns line) there)
-
   pub right_line_if : {E : Type 0} → EntriesAreTrue → (left right : Entrant) (game : Payoffs) (turns : ℕ) (made : Result MatchLine E) → IsEntry (players_of old) left → IsEntry (players_of old) right
       → IfOk made (λ line. line.turns ≡ turns)
       → IfOk made (λ _. AreSides (entry_automaton (players_of mid) left.sheet) left.noise (entry_automaton (players_of mid) right.sheet) right.noise)
       → IfOk made (IsLineOf (entry_automaton (players_of mid) left.sheet) left.noise (entry_automaton (players_of mid) right.sheet) right.noise game turns)
       → IfOk made (IsRightLine (players_of old) game 0 left right)
-  right_line_if true_of left right game turns (Ok line) left_is right_is turns_are sides is = right_line true_of left right game turns line left_is right_is turns_are sides is
+  right_line_if true_of left right game turns (Ok line) left_is right_is turns_are sides is =
+      true_of.line (players_of old) left right game line left_is.valid right_is.valid
+      (before left.sheet right.sheet (λ a b. AreSides a left.noise b right.noise) sides)
+      (before left.sheet right.sheet (λ a b. IsLineOf a left.noise b right.noise game line.turns line) (rw (← turns_are) at is))
   right_line_if true_of left right game turns (Err error) left_is right_is turns_are sides is = tt
 
 -- ---- a tournament
@@ -140,15 +133,20 @@ right_entries true_of players contestants game turns pairs (Ok totals) are are_p
     subst P (sym (entries ∙ ap (λ n. entries_of n totals.matches) (many_contestants players contestants)))
     (true_totals true_of players contestants game turns pairs totals.matches are are_pairs made).entries_right
 
-pub few_turns_of : (players right : List Lasting) → SidesFit players right → (contestants : List Contestant) (turns : ℕ) (pairs : List (ℕ × ℕ))
-    → All (AreFewTurns (entrant_strategies players (entrants_of contestants)) turns) pairs → All (AreFewTurns (strategies_of players contestants) turns) pairs
-few_turns_of players right fits contestants turns pairs few =
-    let P : List Strategy → Type 0 = λ ss. All (AreFewTurns ss turns) pairs in subst P (sym (same_strategies players contestants)) few
+pub few_turns_of : (players right : List Lasting) → SidesFit players right → (contestants : List Contestant) (turns : ℕ) (pairs : List (ℕ × ℕ)) → ArePairs (length (entrants_of contestants)) pairs
+    → All (IsShortPair players (entrants_of contestants) turns) pairs → All (AreFewTurns (strategies_of players contestants) turns) pairs
+few_turns_of players right fits contestants turns pairs are few k d inside =
+    let pair : ℕ × ℕ = get_or pairs k d in
+    let is = are.each k d inside in
+    let l = get_or-map (strategy_of_entrant players) (entrants_of contestants) pair.0 no_entrant no_strategy (omega (arith, is.ordered, is.inside)) in
+    let r = get_or-map (strategy_of_entrant players) (entrants_of contestants) pair.1 no_entrant no_strategy is.inside in
+    let here : AreFewTurns (entrant_strategies players (entrants_of contestants)) turns pair = rw (l, r) (few k d inside) in
+    let P : List Strategy → Type 0 = λ ss. AreFewTurns ss turns pair in subst P (sym (same_strategies players contestants)) here
 
 -- the scores are in range
-pub all_in_range : LinesHold → (strategies others : List Strategy) (game : Payoffs) (turns : ℕ) (pairs : List (ℕ × ℕ)) (lines : List MatchLine) → IsGame game
-    → All (AreFewTurns others turns) pairs → AreLines strategies game turns pairs lines → All (IsInRange turns) lines
-all_in_range law strategies others game turns pairs lines valid few made k d inside =
+pub all_in_range : LinesHold → (players right : List Lasting) → SidesFit players right → (entrants : List Entrant) (strategies : List Strategy) (game : Payoffs) (turns : ℕ) (pairs : List (ℕ × ℕ)) (lines : List MatchLine) → IsGame game
+    → All (IsShortPair players entrants turns) pairs → AreLines strategies game turns pairs lines → All (IsInRange turns) lines
+all_in_range law players right fits entrants strategies game turns pairs lines valid few made k d inside =
     let place : MatchLine → ℕ × ℕ = λ line. (line.left, line.right) in
     let as_many : length lines ≡ length pairs = sym (length-map lines place) ∙ ap length made.places in
     let is = made.each k d inside in

@@ -8,8 +8,8 @@ ghost use Rattle.product_chain.specs.Expected.{IsSureMatch};
 ghost use Rattle.result_lines.specs.Totals.{entries_of};
 ghost use Rattle.sheet_rules.specs.Entrants.{IsSurePair, automaton_of_entrant, entrant_of, entrants_of};
 ghost use Rattle.sheet_rules.specs.RightLine.{IsRightLine};
-ghost use Rattle.round_robin.specs.Contest.{AreFewTurns, ArePairs, IsShort, IsSureStrategy, entrant_strategies, strategy_of_entrant};
-ghost use Rattle.round_robin.specs.Entries.{AreEntries, AreRightEntries, AreRightLines, EntriesAskedOn, EntriesAtMostOn, EntryAskedOn, EntryAtMostOn, IsEntry, IsGridOf, totals_by_rule};
+ghost use Rattle.round_robin.specs.Contest.{ArePairs, IsShort, IsSureStrategy, strategy_of_entrant};
+ghost use Rattle.round_robin.specs.Entries.{AreEntries, AreRightEntries, AreRightLines, EntriesAskedOn, EntriesAtMostOn, EntryAskedOn, EntryAtMostOn, IsEntry, IsGridOf, IsShortPair, totals_by_rule};
 ghost use Rattle.round_robin.specs.Laws.{IsInRange};
 
 use crate::laws::{entries_are_true, lines_hold};
@@ -125,7 +125,7 @@ pub fn entry_totals(
     requires entries { AreEntries (players_of (⟦<Bench as Seen>⟧.view bench.old)) (entrants_of entrants.now) }
     requires pairs { ArePairs (length (entrants_of entrants.now)) pairs.now }
     requires some_turns { 1 ≤ turns }
-    requires few_turns { All (AreFewTurns (entrant_strategies (players_of (⟦<Bench as Seen>⟧.view bench.old)) (entrants_of entrants.now)) turns) pairs.now }
+    requires few_turns { All (IsShortPair (players_of (⟦<Bench as Seen>⟧.view bench.old)) (entrants_of entrants.now) turns) pairs.now }
     ensures lines_right { IfOk result (λ totals. AreRightLines (players_of (⟦<Bench as Seen>⟧.view bench.old)) game.now 0 turns (entrants_of entrants.now) pairs.now totals.matches) }
     ensures range { IfOk result (λ totals. All (IsInRange turns) totals.matches) }
     ensures entries_right { IfOk result (λ totals. AreRightEntries (totals_by_rule (players_of (⟦<Bench as Seen>⟧.view bench.old)) game.now 0 turns (entrants_of entrants.now) pairs.now) (length (entrants_of entrants.now)) totals.entries) }

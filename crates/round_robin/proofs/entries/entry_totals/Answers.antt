@@ -1,4 +1,5 @@
 use Rattle.std.proofs.lemmas.Result.{IfOk-weaker}
+use Rattle.sheet_rules.specs.Entrants.{entrants_of}
 use Rattle.round_robin.proofs.Entering.{all_in_range, are_contestants, asked_entrants, few_turns_of, most_entrants, right_entries, true_totals}
 use Rattle.round_robin.proofs.entries.entry_totals.Goals as goal
 
@@ -7,7 +8,7 @@ totals-requires-clause-contestants g c = are_contestants _ c.args.entrants.now c
 
 pub totals-requires-clause-few_turns : goal.totals-requires-clause-few_turns
 totals-requires-clause-few_turns g c =
-    few_turns_of _ _ c.requires.fits c.args.entrants.now c.args.turns c.args.pairs.now c.requires.few_turns
+    few_turns_of _ _ c.requires.fits c.args.entrants.now c.args.turns c.args.pairs.now c.requires.pairs c.requires.few_turns
 
 pub returns-clause-lines_right : goal.returns-clause-lines_right
 returns-clause-lines_right g c =
@@ -19,7 +20,7 @@ returns-clause-lines_right g c =
 pub returns-clause-range : goal.returns-clause-range
 returns-clause-range g c =
     IfOk-weaker c.totals.result _ _
-    (λ totals made. all_in_range c.lines_hold.ensures _ _ c.args.game.now c.args.turns c.args.pairs.now totals.matches c.unsigned-payoffs.ensures.game c.requires.few_turns made)
+    (λ totals made. all_in_range c.lines_hold.ensures _ _ c.requires.fits (entrants_of c.args.entrants.now) _ c.args.game.now c.args.turns c.args.pairs.now totals.matches c.unsigned-payoffs.ensures.game c.requires.few_turns made)
     c.totals.ensures.lines
 
 pub returns-clause-entries_right : goal.returns-clause-entries_right
