@@ -11,8 +11,8 @@ use Rattle.result_lines.specs.declared.line.MatchLine.{MatchLine}
 use Rattle.result_lines.specs.declared.tables.EntryLine.{EntryLine}
 use Rattle.sheet_rules.specs.declared.contestant.Contestant.{Contestant}
 use Rattle.sheet_rules.specs.Entrants.{Entrant, entrant_at, entrant_of, entrants_of, no_entrant}
-use Rattle.round_robin.specs.Contest.{Strategy, IsPair, ArePairs, AreFewTurns, IsShort, entrant_strategies, no_strategy, strategy_at, strategy_of_entrant}
-use Rattle.round_robin.specs.Entries.{AreEntries as AreContesting, AreRightEntries, AreRightLines, IsEntry, totals_by_rule}
+use Rattle.round_robin.specs.Contest.{IsPair, ArePairs}
+use Rattle.round_robin.specs.Entries.{AreEntries as AreContesting, AreRightEntries, AreRightLines, IsEntry, IsShortPair, totals_by_rule}
 use Rattle.job_tables.specs.declared.tournament.TournamentJob.{TournamentJob}
 use Rattle.lab_file.specs.declared.lab.Entry.{Entry}
 use Rattle.lab_file.specs.Lab.{LabData, IsLab, NamesDiffer, entry_at, no_entry}
@@ -70,20 +70,14 @@ module _ (tell : NotesTell) (players on_the_right : List Lasting) (fits : SidesF
   }
 
   pub are_few_turns : MatchesAreKept → TournamentsAscend → (job : TournamentJob) → IsTournamentJob (length lab.entries) job → tournament_limits (notes_of players) lab.entries job ≡ Ok tt
-      → All (AreFewTurns (entrant_strategies players (entrants_of contestants)) job.turns) (tournament_pairs job (length lab.entries))
+      → All (IsShortPair players (entrants_of contestants) job.turns) (tournament_pairs job (length lab.entries))
   are_few_turns kept law job sound limits k d inside =
       let pair : ℕ × ℕ = get_or (tournament_pairs job (length lab.entries)) k d in
       let is : IsPair (length lab.entries) pair = (are_pairs law job (length lab.entries)).each k d inside in
       let left_inside : pair.0 < length lab.entries = omega (arith, is.ordered, is.inside) in
       let of = are_entrants lab contestants first in
-      let l = get_or-map (strategy_of_entrant players) (entrants_of contestants) pair.0 no_entrant no_strategy (omega (arith, left_inside, many)) in
-      let r = get_or-map (strategy_of_entrant players) (entrants_of contestants) pair.1 no_entrant no_strategy (omega (arith, is.inside, many)) in
-      let P : Strategy → Strategy → Type 0 = λ a b. IsShort a b job.turns in
-      let here : IsShort (strategy_of_entrant players (entrant_at (entrants_of contestants) pair.0)) (strategy_of_entrant players (entrant_at (entrants_of contestants) pair.1)) job.turns =
       is_short tell players on_the_right fits lab noted pair (entrant_at (entrants_of contestants) pair.0) (entrant_at (entrants_of contestants) pair.1) left_inside is.inside
-      (of.each pair.0 left_inside) (of.each pair.1 is.inside) job.turns sound.few_turns (kept (notes_of players) lab.entries job limits k d inside) in
-      subst (P (strategy_at (entrant_strategies players (entrants_of contestants)) pair.0)) (sym r)
-      (subst (λ a. P a (strategy_of_entrant players (entrant_at (entrants_of contestants) pair.1))) (sym l) here)
+      (of.each pair.0 left_inside) (of.each pair.1 is.inside) job.turns sound.few_turns (kept (notes_of players) lab.entries job limits k d inside)
 
 -- one more of the first entries
 pub first_more : (lab : LabData) (place : ℕ) (contestants : List Contestant) (contestant : Contestant)
@@ -117,9 +111,9 @@ pub are_pairs_of : (law : TournamentsAscend) (job : TournamentJob) (count many :
 are_pairs_of law job count many pairs as_many same = rw (as_many, same) (are_pairs law job count)
 
 pub few_turns_of : (players on_the_right : List Lasting) → SidesFit players on_the_right → (entrants : List Entrant) (turns : ℕ) (pairs others : List (ℕ × ℕ)) → pairs ≡ others
-    → All (AreFewTurns (entrant_strategies players entrants) turns) others → All (AreFewTurns (entrant_strategies players entrants) turns) pairs
+    → All (IsShortPair players entrants turns) others → All (IsShortPair players entrants turns) pairs
 few_turns_of players on_the_right fits entrants turns pairs others same few =
-    let P : List (ℕ × ℕ) → Type 0 = λ ps. All (AreFewTurns (entrant_strategies players entrants) turns) ps in
+    let P : List (ℕ × ℕ) → Type 0 = λ ps. All (IsShortPair players entrants turns) ps in
     subst P (sym same) few
 
 -- what is told of the results, with the lab's own game and pairs

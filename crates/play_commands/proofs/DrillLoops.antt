@@ -1,8 +1,9 @@
 -- The loops of a drill: over the places of its machines, and over their lines.
 use Rattle.std.proofs.Common.{◌≡◌, ℕ, suc, ◌+◌, ◌-◌, ◌*◌, ◌^◌, ◌<◌, ◌≤◌, true, false, List, [], ◌∷◌, ◌++◌, length, map, drop, get_or, ℤ, pos, ◌+ℤ◌, ◌≤ℤ◌, refl, sym, ap, ◌∙◌, append_assoc, add-one, drop-cons, arith}
-use Rattle.std.specs.List.{filter, range_with_len}
+use Rattle.std.specs.List.{All, filter, range_with_len}
 use Rattle.std.proofs.lemmas.Int.{ints}
 use Rattle.std.proofs.lemmas.List.{map-append}
+use Rattle.std.proofs.lemmas.List.FromFn.{get_or-range_with_len, length-range_with_len}
 use Rattle.drill.specs.Drill.{drill_name}
 use Rattle.player_core.specs.Sheet.{SheetData}
 use Rattle.sheet_rules.specs.declared.contestant.Contestant.{Contestant}
@@ -17,6 +18,12 @@ range_cut a n h =
 
 range_end : (a n : ℕ) → n ≤ a → range_with_len a (n - a) ≡ []
 range_end a n h = let e : n - a ≡ 0 = omega (arith, h) in ap (range_with_len a) e
+
+pub all_below : (n : ℕ) → All (λ place. place < n) (range_with_len 0 n)
+all_below n k d inside =
+    let many = length-range_with_len 0 n in
+    let at = get_or-range_with_len 0 n k d (omega (arith, inside, many)) in
+    omega (arith, at, inside, many)
 
 -- ---- names
 

@@ -5,7 +5,7 @@ use Rattle.std.proofs.lemmas.Int.{ints}
 use Rattle.std.proofs.lemmas.List.{length-map}
 use Rattle.std.proofs.lemmas.List.Sums.{length-filter, count_by-le-length}
 use Rattle.std.proofs.lemmas.List.Elements.{All-head, All-tail, All-filter, All-map}
-use Rattle.std.proofs.lemmas.List.FromFn.{get_or-map-range_with_len, get_or-range_with_len, length-map-range_with_len, length-range_with_len}
+use Rattle.std.proofs.lemmas.List.FromFn.{get_or-map-range_with_len, length-map-range_with_len, length-range_with_len}
 use Rattle.player_core.specs.State.{BenchState, Lasting, players_of}
 use Rattle.player_core.specs.Fits.{SidesFit}
 use Rattle.player_core.specs.Sheet.{SheetData}
@@ -21,12 +21,8 @@ use Rattle.report_making.specs.Made.{ShowsFirst, drill_report_of, first_order, m
 use Rattle.drill.specs.Drill.{drill_name, drill_sheets}
 use Rattle.play_commands.specs.Machines.{IsSmallTotal, IsTold, IsWhole, drill_job, drill_pairs, first_of, first_places, is_first, line_at, machine_strategies, no_line, sum_of, sum_of_totals, total_at}
 use Rattle.play_commands.specs.RightDrill.{IsAskedDrill, IsRightDrill, drill_totals}
-
-all_below : (n : ℕ) → All (λ place. place < n) (range_with_len 0 n)
-all_below n k d inside =
-    let many = length-range_with_len 0 n in
-    let at = get_or-range_with_len 0 n k d (omega (arith, inside, many)) in
-    omega (arith, at, inside, many)
+use Rattle.play_commands.proofs.DrillLoops.{all_below}
+use Rattle.play_commands.proofs.Tables.{first_same, rest_same}
 
 places_below : (totals : List Fraction) → All (λ place. place < 64) (first_places totals)
 unfolding first_places
@@ -44,12 +40,6 @@ named names entries are (place ∷ places) below =
 -- lines with the same totals
 abbrev totals_in : List (ℕ × ℤ) → List ℤ
 totals_in first = map (λ line. line.1) first
-
-first_same : (u v : ℤ) (us vs : List ℤ) → u ∷ us ≡ v ∷ vs → u ≡ v
-first_same u v us vs e = cc
-
-rest_same : (u v : ℤ) (us vs : List ℤ) → u ∷ us ≡ v ∷ vs → us ≡ vs
-rest_same u v us vs e = cc
 
 abbrev AreWhole : List Fraction → List (ℕ × ℤ) → List ℕ → Type 0
 AreWhole totals first places = AllZip (λ line place. IsWhole line.1 (get_or totals place nothing)) first places

@@ -12,9 +12,9 @@ use Rattle.player_core.specs.Sheet.{SheetData, states}
 use Rattle.player_core.specs.Entry.{entry_automaton, plug_automaton}
 use Rattle.player_core.specs.Fits.{SidesFit}
 use Rattle.sheet_rules.specs.Entrants.{Entrant, IsSurePair, entrant_at, no_entrant}
-use Rattle.round_robin.specs.Contest.{IsPair, ArePairs, AreFewTurns, IsShort, Strategy, entrant_strategies, no_strategy, strategy_at, strategy_of_entrant}
+use Rattle.round_robin.specs.Contest.{IsPair, ArePairs, entrant_strategies}
 use Rattle.round_robin.specs.Asked.{Turns, AreAsked, AtMostTurns, most_for}
-use Rattle.round_robin.specs.Entries.{AreEntries, IsEntry}
+use Rattle.round_robin.specs.Entries.{AreEntries, IsEntry, IsShortPair}
 use Rattle.job_tables.specs.Tournament.{TournamentsAscend, tournament_pairs}
 use Rattle.play_commands.specs.Machines.{AreMachines, drill_job, drill_pairs, machine_strategies, still}
 use Rattle.play_commands.proofs.Contesting.{are_pairs}
@@ -85,18 +85,11 @@ module _ (players : List Lasting) (sheets : List SheetData) (are : AreMachines s
   unfolding drill_pairs
   pairs_are law = are_pairs law drill_job 64
 
-  pub are_few_turns : TournamentsAscend → All (AreFewTurns (entrant_strategies players (map still sheets)) drill_job.turns) drill_pairs
-  are_few_turns law k d inside =
-      let pair : ℕ × ℕ = get_or drill_pairs k d in
-      let is : IsPair 64 pair = (pairs_are law).each k d inside in
-      let l = get_or-map (strategy_of_entrant players) (map still sheets) pair.0 no_entrant no_strategy (omega (arith, is.ordered, is.inside, many)) in
-      let r = get_or-map (strategy_of_entrant players) (map still sheets) pair.1 no_entrant no_strategy (omega (arith, is.inside, many)) in
-      let P : Strategy → Strategy → Type 0 = λ a b. IsShort a b drill_job.turns in
-      let here : IsShort (strategy_of_entrant players (entrant_at (map still sheets) pair.0)) (strategy_of_entrant players (entrant_at (map still sheets) pair.1)) drill_job.turns = record {
-        sure = λ s. omega arith;
-        unsure = λ not_sure. absurd (not_sure (pair_sure pair is));
-      } in
-      subst (P (strategy_at (entrant_strategies players (map still sheets)) pair.0)) (sym r) (subst (λ a. P a (strategy_of_entrant players (entrant_at (map still sheets) pair.1))) (sym l) here)
+  pub are_few_turns : TournamentsAscend → All (IsShortPair players (map still sheets) drill_job.turns) drill_pairs
+  are_few_turns law k d inside = record {
+    sure = λ s. omega arith;
+    unsure = λ not_sure. absurd (not_sure (pair_sure (get_or drill_pairs k d) ((pairs_are law).each k d inside)));
+  }
 
 pub few_pairs : TournamentsAscend → 2 * length drill_pairs ≤ 64 * 65
 unfolding drill_pairs
@@ -123,8 +116,8 @@ module _ (players on_the_right : List Lasting) (fits : SidesFit players on_the_r
       let P : ℕ → Type 0 = λ n. ArePairs n drill_pairs in
       as_made (λ es ps. ArePairs (length es) ps) (subst P (sym (many players sheets are)) (pairs_are players sheets are law))
 
-  pub known_turns : TournamentsAscend → All (AreFewTurns (entrant_strategies players entrants) drill_job.turns) pairs
-  known_turns law = as_made (λ es ps. All (AreFewTurns (entrant_strategies players es) drill_job.turns) ps) (are_few_turns players sheets are law)
+  pub known_turns : TournamentsAscend → All (IsShortPair players entrants drill_job.turns) pairs
+  known_turns law = as_made (λ es ps. All (IsShortPair players es drill_job.turns) ps) (are_few_turns players sheets are law)
 
   pub asked_known : (before now : Turns) → AreAsked (entrant_strategies players entrants) drill_job.turns pairs before now
       → AreAsked (machine_strategies players sheets) drill_job.turns drill_pairs before now

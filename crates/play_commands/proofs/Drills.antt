@@ -4,7 +4,7 @@ use Rattle.std.specs.List.{All, AllZip, filter, range_with_len}
 use Rattle.std.proofs.lemmas.Int.{ints}
 use Rattle.std.proofs.lemmas.List.{length-map}
 use Rattle.std.proofs.lemmas.List.Elements.{All-head, All-tail, All-filter}
-use Rattle.std.proofs.lemmas.List.FromFn.{get_or-map-range_with_len, get_or-range_with_len, length-map-range_with_len, length-range_with_len}
+use Rattle.std.proofs.lemmas.List.FromFn.{get_or-map-range_with_len, length-map-range_with_len}
 use Rattle.player_core.specs.State.{Lasting}
 use Rattle.player_core.specs.Sheet.{SheetData}
 use Rattle.player_core.specs.Fits.{SidesFit}
@@ -24,6 +24,7 @@ use Rattle.lab_report.specs.Valid.{drill_game}
 use Rattle.play_commands.specs.Machines.{AreMachines, IsSmallTotal, IsTold, IsWhole, drill_job, drill_pairs, first_of, first_places, is_first, line_at, machine_expects, machine_totals, no_line, still, sum_of, sum_of_totals, total_at}
 use Rattle.play_commands.proofs.Drilling.{as_drill, few_pairs, many, pair_sure}
 use Rattle.play_commands.proofs.Points.{ArePaid, IsPoint, played_points, rank_known, total_paid}
+use Rattle.play_commands.proofs.DrillLoops.{all_below}
 
 -- ---- lists
 
@@ -31,12 +32,6 @@ use Rattle.play_commands.proofs.Points.{ArePaid, IsPoint, played_points, rank_kn
 filter_same : (p q : ℕ → Bool) (xs : List ℕ) → All (λ x. p x ≡ q x) xs → filter p xs ≡ filter q xs
 filter_same p q [] same = refl
 filter_same p q (x ∷ xs) same = rw (All-head (λ y. p y ≡ q y) x xs same, filter_same p q xs (All-tail (λ y. p y ≡ q y) x xs same)) refl
-
-all_below : (n : ℕ) → All (λ place. place < n) (range_with_len 0 n)
-all_below n k d inside =
-    let many = length-range_with_len 0 n in
-    let at = get_or-range_with_len 0 n k d (omega (arith, inside, many)) in
-    omega (arith, at, inside, many)
 
 -- ---- points
 

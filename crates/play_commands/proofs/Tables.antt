@@ -37,10 +37,10 @@ same_left a b e = ap (λ (s : ShownMatch). s.left) e
 same_right : (a b : ShownMatch) → a ≡ b → a.right ≡ b.right
 same_right a b e = ap (λ (s : ShownMatch). s.right) e
 
-first_same : {X : Type 0} (x y : X) (xs ys : List X) → x ∷ xs ≡ y ∷ ys → x ≡ y
+pub first_same : {X : Type 0} (x y : X) (xs ys : List X) → x ∷ xs ≡ y ∷ ys → x ≡ y
 first_same x y xs ys e = cc
 
-rest_same : {X : Type 0} (x y : X) (xs ys : List X) → x ∷ xs ≡ y ∷ ys → xs ≡ ys
+pub rest_same : {X : Type 0} (x y : X) (xs ys : List X) → x ∷ xs ≡ y ∷ ys → xs ≡ ys
 rest_same x y xs ys e = cc
 
 -- the lines with their places in the report

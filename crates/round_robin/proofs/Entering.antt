@@ -19,7 +19,7 @@ use Rattle.player_core.specs.Laws.{EntriesPlay}
 use Rattle.product_chain.specs.Expected.{IsSureMatch}
 use Rattle.result_lines.specs.declared.line.MatchLine.{MatchLine}
 use Rattle.sheet_rules.specs.declared.contestant.Contestant.{Contestant}
-use Rattle.sheet_rules.specs.Entrants.{Entrant, automaton_of_entrant, entrant_of, entrants_of, rule_player}
+use Rattle.sheet_rules.specs.Entrants.{Entrant, automaton_of_entrant, entrant_of, entrants_of, no_entrant, rule_player}
 use Rattle.sheet_rules.specs.Laws.{EntrantsFollowTheirRules}
 use Rattle.sheet_rules.specs.RightLine.{IsRightLine}
 use Rattle.match_play.specs.Known.{IsKnown}
@@ -29,8 +29,8 @@ use Rattle.result_lines.specs.Lowered.{CanBeLowered, IsRaised, lowered}
 use Rattle.result_lines.specs.Totals.{IsScoreSpan, entries_of, entry_of, pairs_of}
 use Rattle.round_robin.specs.OnBench.{AreAskedOn, AtMostForOn}
 use Rattle.round_robin.specs.Asked.{AreAsked, AtMostTurns, IsAsked, Turns, bench_turns, most_advances, most_for}
-use Rattle.round_robin.specs.Contest.{AreContestants, AreFewTurns, ArePairs, IsShort, IsSureStrategy, Strategy, entrant_strategies, strategies_of, strategy_of, strategy_of_entrant}
-use Rattle.round_robin.specs.Entries.{AreEntries, EntriesAreTrue, EntriesAskedOn, EntriesAtMostOn, EntryAskedOn, EntryAtMostOn, IsEntry, IsGridOf, IsInRangeLess, IsScoreLess, IsTrueByRule}
+use Rattle.round_robin.specs.Contest.{AreContestants, AreFewTurns, ArePairs, IsShort, IsSureStrategy, Strategy, entrant_strategies, no_strategy, strategies_of, strategy_of, strategy_of_entrant}
+use Rattle.round_robin.specs.Entries.{AreEntries, EntriesAreTrue, EntriesAskedOn, EntriesAtMostOn, EntryAskedOn, EntryAtMostOn, IsEntry, IsGridOf, IsInRangeLess, IsScoreLess, IsShortPair, IsTrueByRule}
 use Rattle.round_robin.specs.Laws.{AreSides, IsInRange, LinesHold}
 use Rattle.round_robin.specs.Line.{IsLineOf}
 use Rattle.round_robin.specs.Totals.{AreLines}
@@ -211,14 +211,19 @@ pub right_entries : {E : Type 0} (offset count : ℕ) (raised : List MatchLine) 
 right_entries offset count raised P (Ok totals) same entries here = subst P (sym (entries ∙ ap (entries_of count) same)) here
 right_entries offset count raised P (Err error) same entries here = tt
 
-pub few_turns_of : (players right : List Lasting) → SidesFit players right → (contestants : List Contestant) (turns : ℕ) (pairs : List (ℕ × ℕ))
-    → All (AreFewTurns (entrant_strategies players (entrants_of contestants)) turns) pairs → All (AreFewTurns (strategies_of players contestants) turns) pairs
-few_turns_of players right fits contestants turns pairs few =
-    let P : List Strategy → Type 0 = λ ss. All (AreFewTurns ss turns) pairs in subst P (sym (same_strategies players contestants)) few
+pub few_turns_of : (players right : List Lasting) → SidesFit players right → (contestants : List Contestant) (turns : ℕ) (pairs : List (ℕ × ℕ)) → ArePairs (length (entrants_of contestants)) pairs
+    → All (IsShortPair players (entrants_of contestants) turns) pairs → All (AreFewTurns (strategies_of players contestants) turns) pairs
+few_turns_of players right fits contestants turns pairs are few k d inside =
+    let pair : ℕ × ℕ = get_or pairs k d in
+    let is = are.each k d inside in
+    let l = get_or-map (strategy_of_entrant players) (entrants_of contestants) pair.0 no_entrant no_strategy (omega (arith, is.ordered, is.inside)) in
+    let r = get_or-map (strategy_of_entrant players) (entrants_of contestants) pair.1 no_entrant no_strategy is.inside in
+    let here : AreFewTurns (entrant_strategies players (entrants_of contestants)) turns pair = rw (l, r) (few k d inside) in
+    let P : List Strategy → Type 0 = λ ss. AreFewTurns ss turns pair in subst P (sym (same_strategies players contestants)) here
 
 -- the turns of each match, and its scores, are in range
-module _ (law : LinesHold) (strategies others : List Strategy) (game : Payoffs) (turns : ℕ) (pairs : List (ℕ × ℕ)) (lines : List MatchLine) (valid : IsGame game)
-    (few : All (AreFewTurns others turns) pairs) (made : AreLines strategies game turns pairs lines) where
+module _ (law : LinesHold) (players right : List Lasting) (fits : SidesFit players right) (entrants : List Entrant) (strategies : List Strategy) (game : Payoffs) (turns : ℕ) (pairs : List (ℕ × ℕ))
+    (lines : List MatchLine) (valid : IsGame game) (few : All (IsShortPair players entrants turns) pairs) (made : AreLines strategies game turns pairs lines) where
   few_at : (k : ℕ) → k < length lines → turns ≤ 10 ^ 12
   few_at k inside =
       let place : MatchLine → ℕ × ℕ = λ line. (line.left, line.right) in

@@ -16,7 +16,7 @@ use Rattle.result_lines.specs.Totals.{entries_of, pairs_of}
 use Rattle.sheet_rules.specs.Entrants.{Entrant, automaton_of_entrant, entrant_at, expects_at, rule_player}
 use Rattle.sheet_rules.specs.RightLine.{IsRightLine}
 use Rattle.round_robin.specs.Asked.{AreAsked, AtMostTurns, IsAsked, bench_turns, most_advances, most_for}
-use Rattle.round_robin.specs.Contest.{ArePairs, IsPair, entrant_strategies}
+use Rattle.round_robin.specs.Contest.{ArePairs, IsPair, IsShort, entrant_strategies, strategy_of_entrant}
 use Rattle.round_robin.specs.Laws.{AreSides}
 use Rattle.round_robin.specs.Line.{IsLineOf}
 use Rattle.round_robin.specs.Totals.{AreLines}
@@ -34,6 +34,11 @@ pub record AreEntries (players : List Lasting) (entrants : List Entrant) : Type 
   pub some : 1 ≤ length entrants
   pub few : length entrants ≤ 64
   pub each : All (IsEntry players) entrants
+
+-- the match of a pair of them has at most 10^12 turns if it is sure, any other at most 10,000
+abbrev pub IsShortPair : List Lasting → List Entrant → ℕ → ℕ × ℕ → Type 0
+IsShortPair players entrants turns pair =
+    IsShort (strategy_of_entrant players (entrant_at entrants pair.0)) (strategy_of_entrant players (entrant_at entrants pair.1)) turns
 
 -- ---- what is told of them
 

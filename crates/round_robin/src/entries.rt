@@ -8,8 +8,8 @@ ghost use Rattle.product_chain.specs.Expected.{IsSureMatch};
 ghost use Rattle.result_lines.specs.Totals.{entries_of};
 ghost use Rattle.sheet_rules.specs.Entrants.{IsSurePair, automaton_of_entrant, entrant_of, entrants_of};
 ghost use Rattle.sheet_rules.specs.RightLine.{IsRightLine};
-ghost use Rattle.round_robin.specs.Contest.{AreFewTurns, ArePairs, IsShort, IsSureStrategy, entrant_strategies, strategy_of_entrant};
-ghost use Rattle.round_robin.specs.Entries.{AreEntries, AreRightEntries, AreRightLines, EntriesAskedOn, EntriesAtMostOn, EntryAskedOn, EntryAtMostOn, IsEntry, IsGridOf, IsInRangeLess, totals_by_rule};
+ghost use Rattle.round_robin.specs.Contest.{ArePairs, IsShort, IsSureStrategy, strategy_of_entrant};
+ghost use Rattle.round_robin.specs.Entries.{AreEntries, AreRightEntries, AreRightLines, EntriesAskedOn, EntriesAtMostOn, EntryAskedOn, EntryAtMostOn, IsEntry, IsGridOf, IsInRangeLess, IsShortPair, totals_by_rule};
 
 use crate::laws::{entries_are_true, lines_hold};
 use crate::{Contestant, Entrant, Totals, match_line, totals};
@@ -128,7 +128,7 @@ pub fn entry_totals(
     requires entries { AreEntries (players_of (⟦<Bench as Seen>⟧.view bench.old)) (entrants_of entrants.now) }
     requires pairs { ArePairs (length (entrants_of entrants.now)) pairs.now }
     requires some_turns { 1 ≤ turns }
-    requires few_turns { All (AreFewTurns (entrant_strategies (players_of (⟦<Bench as Seen>⟧.view bench.old)) (entrants_of entrants.now)) turns) pairs.now }
+    requires few_turns { All (IsShortPair (players_of (⟦<Bench as Seen>⟧.view bench.old)) (entrants_of entrants.now) turns) pairs.now }
     requires small { offset ≤ 1000000 }
     ensures lines_right { IfOk result (λ totals. AreRightLines (players_of (⟦<Bench as Seen>⟧.view bench.old)) game.now offset turns (entrants_of entrants.now) pairs.now totals.matches) }
     ensures range { IfOk result (λ totals. All (IsInRangeLess offset turns) totals.matches) }

@@ -10,13 +10,13 @@ totals-requires-clause-contestants g c = are_contestants _ c.args.entrants.now c
 
 pub totals-requires-clause-few_turns : goal.totals-requires-clause-few_turns
 totals-requires-clause-few_turns g c =
-    few_turns_of _ _ c.requires.fits c.args.entrants.now c.args.turns c.args.pairs.now c.requires.few_turns
+    few_turns_of _ _ c.requires.fits c.args.entrants.now c.args.turns c.args.pairs.now c.requires.pairs c.requires.few_turns
 
 pub lowered-requires-clause-raised : goal.lowered-requires-clause-raised
 lowered-requires-clause-raised g c =
     can_be_lowered (length (entrants_of c.args.entrants.now)) c.args.pairs.now c.in_ok-raised.raised c.requires.entries.few c.requires.pairs c.in_ok-raised.ensures.lines.places
     (of_entrants c.args.entrants.now c.in_ok-raised.raised c.in_ok-raised.ensures.entries)
-    (all_raised c.lines_hold.ensures _ _ c.args.game.now c.args.turns c.args.pairs.now c.in_ok-raised.raised.matches c.unsigned-payoffs.ensures.game c.requires.few_turns c.in_ok-raised.ensures.lines)
+    (all_raised c.lines_hold.ensures _ _ c.requires.fits (entrants_of c.args.entrants.now) _ c.args.game.now c.args.turns c.args.pairs.now c.in_ok-raised.raised.matches c.unsigned-payoffs.ensures.game c.requires.few_turns c.in_ok-raised.ensures.lines)
 
 pub returns-clause-lines_right : goal.returns-clause-lines_right
 returns-clause-lines_right g c =
@@ -26,7 +26,7 @@ returns-clause-lines_right g c =
 pub returns-clause-range : goal.returns-clause-range
 returns-clause-range g c =
     right_lines c.args.offset c.in_ok-raised.raised.matches (All (IsInRangeLess c.args.offset c.args.turns)) c.lowered.result c.lowered.ensures.matches
-    (all_in_range c.lines_hold.ensures _ _ c.args.game.now c.args.turns c.args.pairs.now c.in_ok-raised.raised.matches c.unsigned-payoffs.ensures.game c.requires.few_turns c.in_ok-raised.ensures.lines c.args.offset)
+    (all_in_range c.lines_hold.ensures _ _ c.requires.fits (entrants_of c.args.entrants.now) _ c.args.game.now c.args.turns c.args.pairs.now c.in_ok-raised.raised.matches c.unsigned-payoffs.ensures.game c.requires.few_turns c.in_ok-raised.ensures.lines c.args.offset)
 
 pub returns-clause-entries_right : goal.returns-clause-entries_right
 returns-clause-entries_right g c =
