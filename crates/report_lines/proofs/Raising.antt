@@ -1,9 +1,9 @@
 -- Payoffs raised by their offset, and back.
-use Rattle.std.proofs.Common.{◌≡◌, ◌⊎◌, ℕ, ◌+◌, ◌-◌, ◌<◌, ◌≤◌, Bool, true, false, leb, ◌&&◌, max, min, ℤ, pos, negsuc, ◌+ℤ◌, ◌-ℤ◌, ◌≤ℤ◌, unsigned_abs, FitsSigned, to_z, of_z, w64, refl, sym, ap, ◌∙◌, inl, inr, arith}
+use Rattle.std.proofs.Common.{◌≡◌, ◌⊎◌, ℕ, ◌+◌, ◌-◌, ◌<◌, ◌≤◌, Bool, true, false, leb, ◌&&◌, max, min, ℤ, pos, negsuc, ◌+ℤ◌, unsigned_abs, FitsSigned, to_z, of_z, w64, refl, ap, ◌∙◌, inl, inr, arith}
 use Rattle.std.proofs.lemmas.Bool.{cases_order}
 use Rattle.std.proofs.lemmas.Bool.Decides.{nat_tests}
 use Rattle.std.proofs.lemmas.Int.{ints, to_z-of_z}
-use Rattle.history_model.specs.Game.{Payoffs, magnitude, magnitude_back, least, IsGame}
+use Rattle.history_model.specs.Game.{Payoffs, magnitude, magnitude_back, IsGame}
 use Rattle.report_lines.specs.declared.line.ShownGame.{ShownGame}
 use Rattle.report_lines.specs.Fields.{is_amount}
 use Rattle.report_lines.specs.HeadForms.{is_game}

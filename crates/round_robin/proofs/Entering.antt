@@ -102,7 +102,7 @@ module _ (law : EntriesPlay) (old mid : BenchState) (kept : KeepsBench old mid) 
         → EntryAskedOn old new left right turns
     asked_before new left right turns asked =
         let P : Turns → Type 0 = λ t.
-            IsAsked (entry_automaton (players_of old) left.sheet) left.noise (entry_automaton (players_of old) right.sheet) right.noise turns t (bench_turns new) in
+        IsAsked (entry_automaton (players_of old) left.sheet) left.noise (entry_automaton (players_of old) right.sheet) right.noise turns t (bench_turns new) in
         subst P same_turns (before left.sheet right.sheet (λ a b. IsAsked a left.noise b right.noise turns (bench_turns mid) (bench_turns new)) asked)
 
     pub most_before : (new : BenchState) (left right : Entrant)
@@ -110,7 +110,7 @@ module _ (law : EntriesPlay) (old mid : BenchState) (kept : KeepsBench old mid) 
         → EntryAtMostOn old new left right
     most_before new left right most =
         let P : Turns → Type 0 = λ t.
-            AtMostTurns (most_advances (entry_automaton (players_of old) left.sheet) (entry_automaton (players_of old) right.sheet)) t (bench_turns new) in
+        AtMostTurns (most_advances (entry_automaton (players_of old) left.sheet) (entry_automaton (players_of old) right.sheet)) t (bench_turns new) in
         subst P same_turns (before left.sheet right.sheet (λ a b. AtMostTurns (most_advances a b) (bench_turns mid) (bench_turns new)) most)
 
 -- ---- ranges

@@ -3,9 +3,7 @@ ghost use Rattle.round_robin.specs.Entries.{EntriesAreTrue};
 ghost use Rattle.round_robin.specs.Laws.{LinesHold};
 ghost use Rattle.round_robin.specs.Truth.{RanksAreTrue, SumsAreHeld, TotalsHoldTrueTotals, TournamentsAreTrue};
 
-use crate::lowering::{
-    lines_are_lowered, lowered_tournaments_are_true, tournaments_are_lowered,
-};
+use crate::lowering::{lines_are_lowered, lowered_tournaments_are_true, tournaments_are_lowered};
 use fixed_span::verdicts_are_true;
 use history_model::{
     automata_are_weighed, counts_are_paid, histories_agree_with_rows, offset_lowers,
