@@ -2,3 +2,4 @@ pub mod Signed
 pub mod Means
 pub mod TextLaws
 pub mod Verdicts
+pub mod Lowering

@@ -1,3 +1,4 @@
+pub mod Lowered
 pub mod Mix
 pub mod Span
 pub mod Texts

@@ -8,7 +8,7 @@ mod reading;
 mod span;
 mod writing;
 
-pub use laws::{spans_are_exact, verdicts_are_true};
+pub use laws::{spans_are_exact, spans_are_lowered, verdicts_are_true};
 pub use mixing::mix;
 pub use ordering::{Verdict, compare};
 pub use reading::read_span;

@@ -1,5 +1,6 @@
 //! What lies between two whole ends.
-ghost use Rattle.std.specs.Prelude.{◌≡◌, ◌^◌, pos, neg_ℤ, ◌+ℤ◌, ◌≤ℤ◌};
+ghost use Rattle.std.specs.Prelude.{◌≡◌, ◌^◌, ◌≤◌, pos, neg_ℤ, ◌+ℤ◌, ◌-ℤ◌, ◌≤ℤ◌};
+ghost use Rattle.fixed_span.specs.Lowered.{lowered};
 ghost use Rattle.fixed_span.specs.Span.{add, IsSmall};
 
 use std::marker::Model;
@@ -45,6 +46,15 @@ fn added(a: Span, b: Span) -> Span
     }
 }
 
+fn difference_of(a: i128, by: u128) -> i128
+    requires low { neg_ℤ (pos (10 ^ 37)) ≤ℤ a }
+    requires high { a ≤ℤ pos (10 ^ 37) }
+    requires few { by ≤ 10 ^ 37 }
+    ensures { result ≡ a -ℤ pos by }
+{
+    a - by as i128
+}
+
 impl Span {
     ghost use Rattle.std.specs.Prelude.{ℕ, ℤ};
     ghost use Rattle.fixed_span.specs.Span.{point, add, over, Holds, IsSmall};
@@ -75,5 +85,17 @@ impl Span {
         ensures contains { (units : ℕ) (x y : ℤ) (denominator : ℕ) → Holds units self (over x denominator) → Holds units other (over y denominator) → Holds units result (over (x +ℤ y) denominator) }
     {
         added(self, other)
+    }
+    /// Both ends less by so many units, at most 10^37. The ends are from -10^37 to 10^37.
+    pub fn lowered(&self, by: u128) -> Span
+        requires ends { IsSmall self.now }
+        requires few { by ≤ 10 ^ 37 }
+        ensures { result ≡ lowered by self.now }
+    {
+        let (lo, hi) = self.ends();
+        Span {
+            lo: difference_of(lo, by),
+            hi: difference_of(hi, by),
+        }
     }
 }

@@ -1,2 +1,3 @@
+pub mod Coming
 pub mod Growth
 pub mod PlaceLaws

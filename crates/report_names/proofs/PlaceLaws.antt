@@ -53,15 +53,15 @@ place_new (other ∷ others) name h = step_new (bytes_eq other name) others name
 
 -- ---- names stand at their places, and more names move none
 
-push_by : (t : Bool) (rest : List (List ℕ)) (name other : List ℕ) → cond t 0 (place_in rest other + 1) < suc (length rest)
-    → (place_in rest other < length rest → place_in (rest ++ name ∷ []) other ≡ place_in rest other)
-    → cond t 0 (place_in (rest ++ name ∷ []) other + 1) ≡ cond t 0 (place_in rest other + 1)
-push_by true rest name other h more = refl
-push_by false rest name other h more = ap (λ (k : ℕ). k + 1) (more (omega (arith, h)))
+append_by : (t : Bool) (rest more : List (List ℕ)) (other : List ℕ) → cond t 0 (place_in rest other + 1) < suc (length rest)
+    → (place_in rest other < length rest → place_in (rest ++ more) other ≡ place_in rest other)
+    → cond t 0 (place_in (rest ++ more) other + 1) ≡ cond t 0 (place_in rest other + 1)
+append_by true rest more other h same = refl
+append_by false rest more other h same = ap (λ (k : ℕ). k + 1) (same (omega (arith, h)))
 
-pub push_moves_none : (names : List (List ℕ)) (name other : List ℕ) → place_in names other < length names → place_in (names ++ name ∷ []) other ≡ place_in names other
-push_moves_none [] name other h = absurd (omega (arith, h))
-push_moves_none (first ∷ rest) name other h = push_by (bytes_eq first other) rest name other h (push_moves_none rest name other)
+pub append_moves_none : (names more : List (List ℕ)) (other : List ℕ) → place_in names other < length names → place_in (names ++ more) other ≡ place_in names other
+append_moves_none [] more other h = absurd (omega (arith, h))
+append_moves_none (first ∷ rest) more other h = append_by (bytes_eq first other) rest more other h (append_moves_none rest more other)
 
 abbrev pub IsOld : List (List ℕ) → List ℕ → Type 0
 IsOld names name = (place_in names name < length names) ⊎ (place_in names name ≡ length names)
@@ -82,7 +82,7 @@ pub place_below : (names : List (List ℕ)) (name : List ℕ) → place_in (with
 place_below names name = either (λ ns. place_in ns name < length ns) names name (is_old names name) (λ h. h) (λ h. omega (arith, place_new names name h, length-append names (name ∷ [])))
 
 pub with_moves_none : (names : List (List ℕ)) (name other : List ℕ) → place_in names other < length names → place_in (with_name names name) other ≡ place_in names other
-with_moves_none names name other h = either (λ ns. place_in ns other ≡ place_in names other) names name (is_old names name) (λ _. refl) (λ _. push_moves_none names name other h)
+with_moves_none names name other h = either (λ ns. place_in ns other ≡ place_in names other) names name (is_old names name) (λ _. refl) (λ _. append_moves_none names (name ∷ []) other h)
 
 pub longer : (names : List (List ℕ)) (name : List ℕ) → length names ≤ length (with_name names name)
 longer names name = either (λ ns. length names ≤ length ns) names name (is_old names name) (λ _. omega arith) (λ _. omega (arith, length-append names (name ∷ [])))
@@ -111,7 +111,7 @@ last_or_not k l h = le_cases k l (omega (arith, h))
 push_differ : (names : List (List ℕ)) (name : List ℕ) → Differ names → place_in names name ≡ length names → (k : ℕ) → (k < length names) ⊎ (k ≡ length names) → place_in (names ++ name ∷ []) (name_at (names ++ name ∷ []) k) ≡ k
 push_differ names name d h k (inl lt) =
     let there : place_in names (name_at names k) ≡ k = d k lt in
-    ap (place_in (names ++ name ∷ [])) (get_or_append_left names (name ∷ []) [] k lt) ∙ push_moves_none names name (name_at names k) (omega (arith, there, lt)) ∙ there
+    ap (place_in (names ++ name ∷ [])) (get_or_append_left names (name ∷ []) [] k lt) ∙ append_moves_none names (name ∷ []) (name_at names k) (omega (arith, there, lt)) ∙ there
 push_differ names name d h k (inr e) =
     ap (place_in (names ++ name ∷ [])) (get_or_push names name [] k (sym e)) ∙ place_new names name h ∙ sym e
 

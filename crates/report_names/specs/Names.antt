@@ -1,5 +1,5 @@
 -- Names in a report: each once, in order of first appearance.
-use Rattle.std.specs.Prelude.{ℕ, ◌≡◌, ◌+◌, ◌<◌, All, Bool, Contains, List, [], ◌∷◌, ◌++◌, length, slice_index_or, if◌then◌else◌, bytes_eq}
+use Rattle.std.specs.Prelude.{ℕ, ◌≡◌, ◌+◌, ◌<◌, ◌&&◌, ◌||◌, nat_lt, All, Bool, Contains, List, [], ◌∷◌, ◌++◌, length, slice_index_or, if◌then◌else◌, bytes_eq}
 use Rattle.std.specs.List.{list_any}
 
 -- the name at a place, counted from 0
@@ -23,6 +23,14 @@ with_names names (name ∷ more) = with_names (with_name names name) more
 abbrev pub place_in : List (List ℕ) → List ℕ → ℕ
 place_in [] name = 0
 place_in (other ∷ others) name = if bytes_eq other name then 0 else place_in others name + 1
+
+-- a name that was shown, or the next of all names behind those that were shown
+abbrev pub comes : List (List ℕ) → List (List ℕ) → List ℕ → Bool
+comes all shown name = is_among name shown || (nat_lt (length shown) (length all) && bytes_eq (name_at all (length shown)) name)
+
+-- the same of two names, of which the second is shown behind the first
+abbrev pub both_come : List (List ℕ) → List (List ℕ) → List ℕ → List ℕ → Bool
+both_come all shown first second = comes all shown first && comes all (with_name shown first) second
 
 -- the law of names that are gathered, each where it first comes
 pub record NamesGrow : Type 0 where

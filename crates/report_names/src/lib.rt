@@ -4,7 +4,9 @@
 mod laws;
 mod lists;
 mod names;
+mod own;
 
 pub use laws::names_grow;
 pub use lists::{Leaders, Noises, Places};
 pub use names::{Names, place_in};
+pub use own::OwnNoises;

@@ -1,6 +1,6 @@
 //! Names of a report, and their places.
-ghost use Rattle.std.specs.Prelude.{◌≡◌, ◌<◌, ◌^◌, ◌-◌, ◌++◌, ◌∷◌, [], length, IfOk, OnErr, OnOk};
-ghost use Rattle.report_names.specs.Names.{name_at, place_in, with_name};
+ghost use Rattle.std.specs.Prelude.{◌≡◌, ◌<◌, ◌^◌, ◌-◌, ◌++◌, ◌∷◌, ◌&&◌, ◌||◌, nat_lt, bytes_eq, [], length, IfOk, OnErr, OnOk};
+ghost use Rattle.report_names.specs.Names.{both_come, comes, is_among, name_at, place_in, with_name};
 
 use history_model::Name;
 use std::alloc::{AllocFailed, Global};
@@ -65,6 +65,38 @@ impl Names {
         ensures { result.now ≡ name_at self.now place }
     {
         &self.items[place as usize]
+    }
+
+    /// Whether a name is one of them.
+    pub fn has(&self, name: &Name) -> bool
+        ensures { result ≡ is_among name.now self.now }
+    {
+        self.items.iter().any(|other| other.bytes() == name.bytes())
+    }
+
+    // Whether a name stands at a place.
+    fn stands_at(&self, place: usize, name: &Name) -> bool
+        ensures { result ≡ (nat_lt place (length self.now) && bytes_eq (name_at self.now place) name.now) }
+    {
+        place < self.items.len() && self.items[place].bytes() == name.bytes()
+    }
+
+    /// Whether a name is one of those that were shown, or the next of these behind them.
+    pub fn comes(&self, shown: &Names, name: &Name) -> bool
+        ensures { result ≡ comes self.now shown.now name.now }
+    {
+        shown.has(name) || self.stands_at(shown.items.len(), name)
+    }
+
+    /// The same of two names, of which the second is shown behind the first.
+    #[tactic(auto, using(crate::proofs::Coming::both_old, crate::proofs::Coming::both_new))]
+    pub fn both_come(&self, shown: &Names, first: &Name, second: &Name) -> bool
+        ensures { result ≡ both_come self.now shown.now first.now second.now }
+    {
+        let count = shown.items.len();
+        let next = if shown.has(first) { count } else { count + 1 };
+        let is_old = shown.has(second) || first.bytes() == second.bytes();
+        self.comes(shown, first) && (is_old || self.stands_at(next, second))
     }
 
     /// The place of a name, which comes behind the others where it is new.

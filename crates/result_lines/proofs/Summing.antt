@@ -1,12 +1,13 @@
 -- Sums over the lines of matches.
-use Rattle.std.proofs.Common.{◌≡◌, ℕ, suc, ◌+◌, ◌*◌, ◌^◌, ◌<◌, Bool, true, false, if◌then◌else◌, List, ◌∷◌, length, drop, get_or, ℤ, pos, ◌≤ℤ◌, sym, ◌∙◌, ap, subst, add-one, drop-cons, arith}
+use Rattle.std.proofs.Common.{◌≡◌, ℕ, suc, ◌+◌, ◌*◌, ◌^◌, ◌≤◌, ◌<◌, Bool, true, false, if◌then◌else◌, List, ◌∷◌, length, drop, get_or, ℤ, pos, neg_ℤ, ◌≤ℤ◌, sym, ◌∙◌, ap, subst, add-one, drop-cons, arith}
 use Rattle.std.specs.List.{All}
 use Rattle.std.proofs.lemmas.Int.{ints}
 use Rattle.std.proofs.lemmas.List.FromFn.{length-map-range_with_len, get_or-map-range_with_len}
-use Rattle.fixed_span.specs.Span.{Ends, add, point}
+use Rattle.fixed_span.specs.Span.{Ends, IsSmall, add, point}
 use Rattle.result_lines.specs.declared.line.MatchLine.{MatchLine}
 use Rattle.result_lines.specs.declared.tables.EntryLine.{EntryLine}
 use Rattle.result_lines.specs.declared.ranking.Rank.{Rank}
+use Rattle.result_lines.specs.Lowered.{IsRaised}
 use Rattle.result_lines.specs.Totals.{IsScoreSpan, AreSummable, HasScores, IsSummable, entry_of, own_score, total_of, totals_of, undecided_of, wins_of}
 use Rattle.result_lines.specs.Ranks.{rank_of}
 
@@ -15,7 +16,7 @@ use Rattle.result_lines.specs.Ranks.{rank_of}
 -- the sum of the first k matches; each adds at most 10^33
 pub record IsSummed (i : ℕ) (lines : List MatchLine) (k : ℕ) (sum : Ends) : Type 0 where
   pub total : add sum (total_of i (drop k lines)) ≡ total_of i lines
-  pub low : pos 0 ≤ℤ sum.lo
+  pub low : neg_ℤ (pos (k * 10 ^ 33)) ≤ℤ sum.lo
   pub ordered : sum.lo ≤ℤ sum.hi
   pub high : sum.hi ≤ℤ pos (k * 10 ^ 33)
 
@@ -37,13 +38,26 @@ score_by false false line h = record { low = omega (arith, ints); ordered = omeg
 own_in_range : (i : ℕ) (line : MatchLine) → AreSummable line → IsSummable (own_score i line)
 own_in_range i line h = score_by _ _ line h
 
+-- the own score in one of the matches
+pub own_summable : (i k : ℕ) (lines : List MatchLine) (line : MatchLine) (own : Ends) → k < length lines → All AreSummable lines
+    → line ≡ get_or lines k line → own ≡ own_score i line → IsSummable own
+own_summable i k lines line own inside scores read is =
+    let here : AreSummable line = let P : MatchLine → Type 0 = λ l. AreSummable l in subst P (sym read) (scores k line inside) in
+    let P : Ends → Type 0 = λ s. IsSummable s in subst P (sym is) (own_in_range i line here)
+
+-- sums of few matches are small
+pub sum_small : (i k : ℕ) (lines : List MatchLine) (sum own : Ends) → k < length lines → length lines ≤ 4096 → IsSummable own
+    → IsSummed i lines k sum → IsSmall (add sum own)
+sum_small i k lines sum own inside few in_range so_far = record {
+  low = omega (arith, ints, inside, few, so_far.low, in_range.low);
+  high = omega (arith, ints, inside, few, so_far.high, in_range.high);
+}
+
 -- one match more
 pub summed_more : (i k : ℕ) (lines : List MatchLine) (line : MatchLine) (sum own next : Ends) → k < length lines → All AreSummable lines
     → line ≡ get_or lines k line → own ≡ own_score i line → next ≡ add sum own → IsSummed i lines k sum → IsSummed i lines (k + 1) next
 summed_more i k lines line sum own next inside scores read is added so_far =
-    let here : AreSummable line = let P : MatchLine → Type 0 = λ l. AreSummable l in subst P (sym read) (scores k line inside) in
-    let P : Ends → Type 0 = λ s. IsSummable s in
-    let in_range : IsSummable own = subst P (sym is) (own_in_range i line here) in
+    let in_range = own_summable i k lines line own inside scores read is in
     let cut : drop k lines ≡ line ∷ drop (k + 1) lines =
     drop-cons lines k line inside ∙ ap (λ l. l ∷ drop (suc k) lines) (sym read) ∙ ap (λ n. line ∷ drop n lines) (sym (add-one k)) in
     let rest = total_of i (drop (k + 1) lines) in
@@ -61,10 +75,13 @@ summed_more i k lines line sum own next inside scores read is added so_far =
 
 -- scores of matches can be summed
 summable : (span : Ends) → IsScoreSpan span → IsSummable span
-summable span h = record { low = h.low; ordered = h.ordered; high = omega (arith, ints, h.high) }
+summable span h = record { low = omega (arith, ints, h.low); ordered = h.ordered; high = omega (arith, ints, h.high) }
 
 pub all_summable : (lines : List MatchLine) → All HasScores lines → All AreSummable lines
 all_summable lines all k d h = let line = get_or lines k d in record { left = summable line.left_score (all k d h).left; right = summable line.right_score (all k d h).right }
+
+pub raised_summable : (lines : List MatchLine) → All IsRaised lines → All AreSummable lines
+raised_summable lines all = all_summable lines (λ k d h. (all k d h).scores)
 
 -- ---- entries
 

@@ -1,5 +1,5 @@
 -- What a tournament makes of the lines of its matches.
-use Rattle.std.specs.Prelude.{ℕ, ◌^◌, ◌≤ℤ◌, ◌==◌, ◌&&◌, ◌||◌, Bool, not, List, [], ◌∷◌, map, count_by, pos, if◌then◌else◌}
+use Rattle.std.specs.Prelude.{ℕ, ◌^◌, ◌≤ℤ◌, ◌==◌, ◌&&◌, ◌||◌, Bool, not, List, [], ◌∷◌, map, count_by, pos, neg_ℤ, if◌then◌else◌}
 use Rattle.std.specs.List.{range_with_len}
 use Rattle.fixed_span.specs.declared.ordering.Verdict.{Verdict}
 use Rattle.fixed_span.specs.Span.{Ends, add, point}
@@ -25,9 +25,9 @@ pub record HasScores (line : MatchLine) : Type 0 where
   pub left : IsScoreSpan line.left_score
   pub right : IsScoreSpan line.right_score
 
--- the ends of a score that is summed, from 0 to 10^33
+-- the ends of a score that is summed, from -10^33 to 10^33
 pub record IsSummable (span : Ends) : Type 0 where
-  pub low : pos 0 ≤ℤ span.lo
+  pub low : neg_ℤ (pos (10 ^ 33)) ≤ℤ span.lo
   pub ordered : span.lo ≤ℤ span.hi
   pub high : span.hi ≤ℤ pos (10 ^ 33)
 

@@ -2,7 +2,9 @@
 //! with its total, its rank, and how many matches it won or left undecided. It knows no player and no bench.
 #![tactic(auto)]
 
+pub mod laws;
 mod line;
+mod lowering;
 mod ranking;
 mod scoring;
 mod tables;

@@ -2,7 +2,7 @@
 ghost use Rattle.std.specs.Prelude.{◌≡◌, ◌+◌, ◌<◌, ◌≤◌, ◌^◌, All, IfOk, length, map, count_by};
 ghost use Rattle.fixed_span.specs.Verdict.{verdict};
 ghost use Rattle.result_lines.specs.Ranks.{rank_of};
-ghost use Rattle.result_lines.specs.Totals.{AreSummable, HasScores, entries_of, entry_of, leaves_undecided, meets_another, own_score, own_verdict, total_of, totals_of, undecided_of, wins_match, wins_of};
+ghost use Rattle.result_lines.specs.Totals.{AreSummable, entries_of, entry_of, leaves_undecided, meets_another, own_score, own_verdict, total_of, totals_of, undecided_of, wins_match, wins_of};
 
 use crate::ranking::{is_greater, is_undecided};
 use crate::{EntryLine, MatchLine, rank_of};
@@ -24,7 +24,7 @@ fn own_score(line: &MatchLine, i: u32) -> Span
 }
 
 /// The total of the entry at a place: the sum of its own spans in at most 4,096 matches, of a match with
-/// itself the left one. Scores are from 0 to 10^33 units.
+/// itself the left one. Scores are from -10^33 to 10^33 units.
 pub fn total_of(lines: &[MatchLine], i: u32) -> Span
     requires few { length lines.now ≤ 4096 }
     requires scores { All AreSummable lines.now }
@@ -79,7 +79,7 @@ pub fn undecided_of(lines: &[MatchLine], i: u32) -> u32
 // The totals of so many entries.
 fn totals_of(alloc: Global, lines: &[MatchLine], count: u32) -> Result<Vec<Span>, NoMemory>
     requires few { length lines.now ≤ 4096 }
-    requires scores { All HasScores lines.now }
+    requires scores { All AreSummable lines.now }
     ensures { IfOk result (λ spans. spans.items ≡ totals_of count lines.now) }
 {
     let mut spans = Vec::new(alloc);
@@ -89,7 +89,7 @@ fn totals_of(alloc: Global, lines: &[MatchLine], count: u32) -> Result<Vec<Span>
     Ok(spans)
 }
 
-/// The lines of so many entries, from at most 4,096 matches whose scores are from 0 to 10^30 units.
+/// The lines of so many entries, from at most 4,096 matches whose scores are from -10^33 to 10^33 units.
 ///
 /// # Errors
 ///
@@ -100,7 +100,7 @@ pub fn entries_of(
     count: u32,
 ) -> Result<Vec<EntryLine>, NoMemory>
     requires few { length lines.now ≤ 4096 }
-    requires scores { All HasScores lines.now }
+    requires scores { All AreSummable lines.now }
     ensures { IfOk result (λ entries. entries.items ≡ entries_of count lines.now) }
 {
     let spans = totals_of(alloc, lines, count)?;
