@@ -3,11 +3,8 @@ use Rattle.std.specs.Prelude.{◌≡◌, ◌↔◌, ◌<◌, ℕ, ◌^◌, ◌&&
 use Rattle.history_model.specs.Game.{magnitude}
 use Rattle.texts.specs.Cuts.{lacks}
 use Rattle.texts.specs.Numbers.{point_text, point_at, ◌>>=◌}
+pub use Rattle.texts.specs.Numbers.{IsDecimals}
 use Rattle.fixed_span.specs.Span.{Ends}
-
--- chances are shown with nine decimals, and scores with twelve
-abbrev pub IsDecimals : ℕ → Type 0
-IsDecimals decimals = (decimals ≡ 9) ⊎ (decimals ≡ 12)
 
 -- a span that is shown: its ends lie from 0 to 10^37 units
 pub record IsShown (span : Ends) : Type 0 where

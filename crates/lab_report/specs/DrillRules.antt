@@ -1,7 +1,6 @@
 -- Which line may follow which in the report of a drill: its number, a line for each machine of the first rank, the sum of all
 -- totals, and then the end.
 use Rattle.std.specs.Prelude.{ℕ, ℤ, ◌≡◌, ◌≤◌, Bool, true, false, nat_lt, List, [], ◌∷◌, ◌++◌, length}
-use Rattle.history_model.specs.Noise.{no_noise}
 use Rattle.report_lines.specs.declared.line.ShownFirst.{ShownFirst}
 use Rattle.report_lines.specs.declared.line.Line.{Line}
 use Rattle.report_lines.specs.declared.line.Line.TheVariants as lines
@@ -11,7 +10,7 @@ use Rattle.lab_report.specs.declared.state.DrillSoFar.TheVariants as drills
 use Rattle.lab_report.specs.declared.state.State.{State}
 use Rattle.lab_report.specs.declared.state.State.TheVariants as states
 use Rattle.report_names.specs.Names.{place_in, with_name}
-use Rattle.lab_report.specs.Valid.{drill_game}
+use Rattle.lab_report.specs.Valid.{drill_head}
 
 -- at most 64 machines, which stand between the number and the sum
 abbrev pub drill_allows : DrillSoFar → Line → Bool
@@ -32,7 +31,7 @@ after_drill names (drills.Numbered number first) (lines.First x) =
     states.InDrill (with_name names x.name) (drills.Numbered number (with_first names first x))
 after_drill names (drills.Numbered number first) (lines.Total sum) = states.InDrill names (drills.Summed number first sum)
 after_drill names (drills.Summed number first sum) lines.End =
-    states.Ended drill_game no_noise names (bodies.Drill number first sum)
+    states.Ended drill_head [] names (bodies.Drill number first sum)
 after_drill names drill _ = states.InDrill names drill
 
 -- at most as many names so far as machines, of which there are few

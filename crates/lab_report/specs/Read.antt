@@ -1,5 +1,5 @@
 -- What reading a report answers.
-use Rattle.std.specs.Prelude.{ℕ, ◌≡◌, List, [], Result, Ok, Err}
+use Rattle.std.specs.Prelude.{ℕ, ◌≡◌, List, Result, Ok, Err}
 use Rattle.texts.specs.Grammar.{IsFirstBad}
 use Rattle.lab_report.specs.declared.reading.ReportError.{ReportError}
 use Rattle.lab_report.specs.declared.reading.ReportError.TheVariants as errors
@@ -7,6 +7,7 @@ use Rattle.lab_report.specs.declared.report.Report.{Report}
 use Rattle.lab_report.specs.declared.state.State.{State}
 use Rattle.lab_report.specs.declared.state.State.TheVariants as states
 use Rattle.lab_report.specs.Grammar.{grammar}
+use Rattle.lab_report.specs.Valid.{head_of}
 
 -- the line of this number is the first that isn't one that may follow those before it
 abbrev pub IsBadLine : List ℕ → ℕ → Type 0
@@ -32,13 +33,7 @@ IfBad (Err errors.NoMemory) Is = Unit {0}
 
 -- what all lines of a report lead to
 abbrev pub whole : Report → State
-whole report = states.Ended report.game report.noise report.names report.body
-
--- what is the same in every report of version 1
-pub record IsFirstVersion (report : Report) : Type 0 where
-  pub version : report.version ≡ 1
-  pub offset : report.offset ≡ 0
-  pub noises : report.noises ≡ []
+whole report = states.Ended (head_of report) report.noises report.names report.body
 
 -- what reading one line after the other answers
 abbrev pub Reading : Result Report ReportError → Result State ℕ → Type 0

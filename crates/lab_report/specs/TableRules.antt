@@ -1,8 +1,5 @@
 -- Which line may follow which in the report of a tournament: match lines, then a line for each entry, and then the end.
 use Rattle.std.specs.Prelude.{ℕ, ◌+◌, ◌==◌, ◌&&◌, Bool, true, false, not, nat_lt, nat_le, List, [], ◌∷◌, ◌++◌, length, map, Option, Some, None}
-use Rattle.std.specs.Ordering.{int_eq}
-use Rattle.history_model.specs.Game.{Payoffs}
-use Rattle.history_model.specs.Noise.{FlipRate}
 use Rattle.fixed_span.specs.Span.{Ends}
 use Rattle.result_lines.specs.declared.line.MatchLine.{MatchLine}
 use Rattle.result_lines.specs.declared.ranking.Rank.{Rank}
@@ -14,12 +11,14 @@ use Rattle.report_lines.specs.declared.line.ShownMatch.{ShownMatch}
 use Rattle.report_lines.specs.declared.line.ShownEntry.{ShownEntry}
 use Rattle.report_lines.specs.declared.line.Line.{Line}
 use Rattle.report_lines.specs.declared.line.Line.TheVariants as lines
+use Rattle.report_names.specs.declared.own.OwnNoises.{OwnNoises}
 use Rattle.lab_report.specs.declared.report.Body.TheVariants as bodies
+use Rattle.lab_report.specs.declared.report.Head.{Head}
 use Rattle.lab_report.specs.declared.state.BodySoFar.TheVariants as parts
 use Rattle.lab_report.specs.declared.state.State.{State}
 use Rattle.lab_report.specs.declared.state.State.TheVariants as states
 use Rattle.lab_report.specs.declared.table.Table.{Table}
-use Rattle.lab_report.specs.MatchRules.{pays, placed_match, names_with_match}
+use Rattle.lab_report.specs.MatchRules.{is_scored, same_ends, placed_match, names_with_match}
 use Rattle.report_names.specs.Names.{place_in, with_name}
 use Rattle.report_names.specs.Places.{is_listed, are_listed}
 
@@ -33,9 +32,6 @@ rank_read (Some rank) = ranks.At rank
 -- the line without the name
 abbrev pub unnamed : ShownEntry → EntryLine
 unnamed x = record { total = x.total; rank = rank_read x.rank; wins = x.wins; undecided = x.undecided }
-
-abbrev pub same_ends : Ends → Ends → Bool
-same_ends a b = int_eq a.lo b.lo && int_eq a.hi b.hi
 
 -- the total of the entry at a place, and its matches won and undecided, are those of the match lines
 abbrev pub adds_up : List MatchLine → ℕ → ShownEntry → Bool
@@ -65,9 +61,8 @@ are_ranked entries = ranked_from (totals_in entries) 0 entries
 -- ---- one line behind the others
 
 -- at most 2080 matches, before all entries
-abbrev pub match_fits : Payoffs → Table → ShownMatch → Bool
-match_fits game table m =
-    (length table.entries == 0 && nat_lt (length table.matches) 2080) && pays game m.left_score m.right_score m.tally
+abbrev pub match_fits : Head → Table → ShownMatch → Bool
+match_fits head table m = (length table.entries == 0 && nat_lt (length table.matches) 2080) && is_scored head m
 
 -- at most 64 entries, each once
 abbrev pub entry_fits : List (List ℕ) → Table → ShownEntry → Bool
@@ -87,18 +82,18 @@ abbrev pub with_entry : List (List ℕ) → Table → ShownEntry → Table
 with_entry names table x =
     record { matches = table.matches; who = table.who ++ place_in names x.name ∷ []; entries = table.entries ++ unnamed x ∷ [] }
 
-abbrev pub table_allows : Payoffs → List (List ℕ) → Table → Line → Bool
-table_allows game names table (lines.Match m) = match_fits game table m
-table_allows game names table (lines.Entry x) = entry_fits names table x
-table_allows game names table lines.End = is_whole names table
+abbrev pub table_allows : Head → List (List ℕ) → Table → Line → Bool
+table_allows head names table (lines.Match m) = match_fits head table m
+table_allows head names table (lines.Entry x) = entry_fits names table x
+table_allows head names table lines.End = is_whole names table
 table_allows _ _ _ _ = false
 
 -- what a line behind those of a table leaves
-abbrev pub after_table : Payoffs → FlipRate → List (List ℕ) → Table → Line → State
-after_table game noise names table (lines.Match m) =
-    states.InBody game noise (names_with_match names m) (parts.Tournament (with_match names table m))
-after_table game noise names table (lines.Entry x) =
-    states.InBody game noise (with_name names x.name) (parts.Tournament (with_entry names table x))
-after_table game noise names table lines.End =
-    states.Ended game noise names (bodies.Tournament table.matches table.who table.entries)
-after_table game noise names table _ = states.InBody game noise names (parts.Tournament table)
+abbrev pub after_table : Head → OwnNoises → List (List ℕ) → Table → Line → State
+after_table head own names table (lines.Match m) =
+    states.InBody head own (names_with_match names m) (parts.Tournament (with_match names table m))
+after_table head own names table (lines.Entry x) =
+    states.InBody head own (with_name names x.name) (parts.Tournament (with_entry names table x))
+after_table head own names table lines.End =
+    states.Ended head own.noises names (bodies.Tournament table.matches table.who table.entries)
+after_table head own names table _ = states.InBody head own names (parts.Tournament table)

@@ -1,47 +1,75 @@
 -- Valid reports, fact by fact.
 use Rattle.std.specs.List.{AllPairs, AllZip, list_any}
-use Rattle.std.specs.Prelude.{ℕ, ℤ, ◌≡◌, ◌≢◌, ◌==◌, true, ◌*◌, ◌^◌, ◌<◌, ◌≤◌, pos, ◌≤ℤ◌, All, List, [], ◌∷◌, ◌++◌, length, map, IfSome}
+use Rattle.std.specs.Prelude.{ℕ, ℤ, ◌≡◌, ◌≢◌, ◌==◌, true, ◌*◌, ◌^◌, ◌<◌, ◌≤◌, pos, ◌≤ℤ◌, All, List, [], ◌∷◌, ◌++◌, length, map, IfSome, neg_ℤ, if◌then◌else◌}
 use Rattle.history_model.specs.declared.tally.Tally.{Tally}
 use Rattle.history_model.specs.Game.{Payoffs, IsGame}
 use Rattle.history_model.specs.Name.{IsName}
-use Rattle.history_model.specs.Noise.{FlipRate, IsFlipRate, no_noise}
+use Rattle.history_model.specs.Noise.{IsFlipRate, no_noise}
 use Rattle.history_model.specs.Tally.{total, left_points, right_points}
+use Rattle.fixed_span.specs.Lowered.{lowered}
 use Rattle.fixed_span.specs.Span.{Ends, point, score_units}
+use Rattle.report_lines.specs.Payoffs.{IsOffset}
 use Rattle.result_lines.specs.declared.line.MatchLine.{MatchLine}
 use Rattle.result_lines.specs.declared.tables.EntryLine.{EntryLine}
 use Rattle.result_lines.specs.Ranks.{ranks_of}
 use Rattle.result_lines.specs.Totals.{total_of, wins_of, undecided_of}
 use Rattle.lab_report.specs.declared.report.Body.{Body}
 use Rattle.lab_report.specs.declared.report.Body.TheVariants as bodies
+use Rattle.lab_report.specs.declared.report.Head.{Head}
 use Rattle.lab_report.specs.declared.report.Report.{Report}
 use Rattle.report_names.specs.Names.{name_at, with_names}
 use Rattle.lab_report.specs.Text.{report_text}
 
--- a score is shown from 0 to 10^33 units
-pub record IsScore (score : Ends) : Type 0 where
-  pub low : pos 0 ≤ℤ score.lo
+-- ---- what a report tells of its lab
+
+-- there are two versions, of which the first has no offset
+pub record IsHead (head : Head) : Type 0 where
+  pub some : 1 ≤ head.version
+  pub known : head.version ≤ 2
+  pub first : head.version ≡ 1 → head.offset ≡ 0
+  pub raised : IsOffset head.game head.offset
+
+-- what the parts of a report tell of its lab
+abbrev pub head_of : Report → Head
+head_of report = record { version = report.version; offset = report.offset; game = report.game; noise = report.noise }
+
+-- ---- what it tells of matches
+
+-- how far below 0 scores are shown: not at all in version 1
+abbrev pub lowest : ℕ → ℕ → ℤ
+lowest version units = if version == 1 then pos 0 else neg_ℤ (pos units)
+
+-- a score is shown up to 10^33 units
+pub record IsScore (version : ℕ) (score : Ends) : Type 0 where
+  pub low : lowest version (10 ^ 33) ≤ℤ score.lo
   pub ordered : score.lo ≤ℤ score.hi
   pub high : score.hi ≤ℤ pos (10 ^ 33)
 
+-- the score of so many points of the raised game, less the offset for each turn
+abbrev pub paid : ℕ → ℕ → ℕ → Ends
+paid offset turns points = lowered (offset * turns * score_units) (point (pos (points * score_units)))
+
 -- counts make up the turns of a match, and its scores are what they are paid
-pub record IsCounted (game : Payoffs) (line : MatchLine) (tally : Tally) : Type 0 where
+pub record IsCounted (head : Head) (line : MatchLine) (tally : Tally) : Type 0 where
   pub turns : total tally ≡ line.turns
-  pub left : line.left_score ≡ point (pos (left_points game tally * score_units))
-  pub right : line.right_score ≡ point (pos (right_points game tally * score_units))
+  pub left : line.left_score ≡ paid head.offset line.turns (left_points head.game tally)
+  pub right : line.right_score ≡ paid head.offset line.turns (right_points head.game tally)
 
 -- what a report can show of a match, apart from the places of its entries
-pub record IsShowable (game : Payoffs) (line : MatchLine) : Type 0 where
+pub record IsShowable (head : Head) (line : MatchLine) : Type 0 where
   pub some_turns : 1 ≤ line.turns
   pub few_turns : line.turns ≤ 10 ^ 12
-  pub left : IsScore line.left_score
-  pub right : IsScore line.right_score
-  pub counts : IfSome line.tally (IsCounted game line)
+  pub left : IsScore head.version line.left_score
+  pub right : IsScore head.version line.right_score
+  pub counts : IfSome line.tally (IsCounted head line)
 
 -- a match of two of so many entries
-pub record IsMatchOf (count : ℕ) (game : Payoffs) (line : MatchLine) : Type 0 where
+pub record IsMatchOf (count : ℕ) (head : Head) (line : MatchLine) : Type 0 where
   pub left : line.left < count
   pub right : line.right < count
-  pub showable : IsShowable game line
+  pub showable : IsShowable head line
+
+-- ---- what it tells of tournaments and drills
 
 -- what is told of the entry at a place is what its matches give: the sum of its own scores, and how many matches with
 -- others it won, or left undecided
@@ -57,11 +85,11 @@ pub record IsOnceEach (count : ℕ) (who : List ℕ) : Type 0 where
   pub once : AllPairs (λ a b. a ≢ b) who
 
 -- matches of so many entries, and what they give each of these, whose ranks are those by all totals
-pub record IsTable (count : ℕ) (game : Payoffs) (matches : List MatchLine) (who : List ℕ) (entries : List EntryLine) : Type 0 where
+pub record IsTable (count : ℕ) (head : Head) (matches : List MatchLine) (who : List ℕ) (entries : List EntryLine) : Type 0 where
   pub few_matches : length matches ≤ 2080
   pub some_entries : 1 ≤ length entries
   pub few_entries : length entries ≤ 64
-  pub playable : All (IsMatchOf count game) matches
+  pub playable : All (IsMatchOf count head) matches
   pub each_once : IsOnceEach count who
   pub counted : AllZip (IsCountedIn matches) who entries
   pub ranked : map (λ entry. entry.rank) entries ≡ ranks_of (map (λ entry. entry.total) entries)
@@ -84,20 +112,24 @@ pub record IsDrill (count : ℕ) (number : ℕ) (first : List (ℕ × ℤ)) (sum
   pub sum_is : IsTotal sum
 
 -- a body with places among so many names
-abbrev pub IsBody : ℕ → Payoffs → Body → Type 0
-IsBody count game (bodies.Match line) = IsMatchOf count game line
-IsBody count game (bodies.Tournament matches who entries) = IsTable count game matches who entries
-IsBody count game (bodies.Drill number first sum) = IsDrill count number first sum
+abbrev pub IsBody : ℕ → Head → Body → Type 0
+IsBody count head (bodies.Match line) = IsMatchOf count head line
+IsBody count head (bodies.Tournament matches who entries) = IsTable count head matches who entries
+IsBody count head (bodies.Drill number first sum) = IsDrill count number first sum
 
 -- the game of every drill
 abbrev pub drill_game : Payoffs
 drill_game = record { r = 3; s = 0; t = 5; p = 1 }
 
--- the game and the noise of a drill are always the same, and its text doesn't show them
-abbrev pub IsFixed : Payoffs → FlipRate → Body → Type 0
-IsFixed game noise (bodies.Match line) = Unit {0}
-IsFixed game noise (bodies.Tournament matches who entries) = Unit {0}
-IsFixed game noise (bodies.Drill number first sum) = (game ≡ drill_game) × (noise ≡ no_noise)
+-- what every drill tells of its lab
+abbrev pub drill_head : Head
+drill_head = record { version = 1; offset = 0; game = drill_game; noise = no_noise }
+
+-- it is always the same, and its text shows only the version
+abbrev pub IsFixed : Head → Body → Type 0
+IsFixed head (bodies.Match line) = Unit {0}
+IsFixed head (bodies.Tournament matches who entries) = Unit {0}
+IsFixed head (bodies.Drill number first sum) = head ≡ drill_head
 
 -- the names that the lines of matches show, in their order
 abbrev pub match_names : List (List ℕ) → List MatchLine → List (List ℕ)
@@ -114,17 +146,21 @@ shown_names names (bodies.Match line) = name_at names line.left ∷ name_at name
 shown_names names (bodies.Tournament matches who entries) = match_names names matches ++ map (name_at names) who
 shown_names names (bodies.Drill number first sum) = first_names names first
 
--- a report of version 1: its parts are in range, and its names are those that it shows, each once, in order of first appearance
+-- how many noises a report with so many names has: none in version 1, and in version 2 one of each name
+abbrev pub own_count : ℕ → ℕ → ℕ
+own_count version names = if version == 1 then 0 else names
+
+-- a report: its parts are in range, and its names are those that it shows, each once, in order of first appearance
 pub record IsValid (report : Report) : Type 0 where
-  pub version : report.version ≡ 1
-  pub offset : report.offset ≡ 0
+  pub head : IsHead (head_of report)
   pub game : IsGame report.game
   pub noise : IsFlipRate report.noise
-  pub noises : report.noises ≡ []
-  pub fixed : IsFixed report.game report.noise report.body
+  pub own : length report.noises ≡ own_count report.version (length report.names)
+  pub are_noises : All IsFlipRate report.noises
+  pub fixed : IsFixed (head_of report) report.body
   pub are_names : All IsName report.names
   pub shown : report.names ≡ with_names [] (shown_names report.names report.body)
-  pub body : IsBody (length report.names) report.game report.body
+  pub body : IsBody (length report.names) (head_of report) report.body
 
 -- the law: one text is the text of one valid report
 abbrev pub OneReportAText : Type 0

@@ -1,11 +1,11 @@
 //! What may follow in the report of a drill.
 ghost use Rattle.std.specs.Prelude.{◌≡◌, IfOk};
 ghost use Rattle.lab_report.specs.DrillRules.{HasDrillRoom, after_drill, drill_allows};
-ghost use Rattle.lab_report.specs.Valid.{drill_game};
+ghost use Rattle.lab_report.specs.Valid.{drill_game, drill_head};
 ghost use Rattle.history_model.specs.Noise.{no_noise};
 
 use crate::state::{DrillSoFar, State};
-use crate::{Body, Leaders, Names};
+use crate::{Body, Head, Leaders, Names, Noises};
 use history_model::{Game, NoMemory, Noise};
 use report_lines::Line;
 use std::alloc::Global;
@@ -27,6 +27,17 @@ pub fn no_noise() -> Noise
     ensures { result ≡ no_noise }
 {
     Noise { n: 0, e: 1 }
+}
+
+fn drill_head() -> Head
+    ensures { result ≡ drill_head }
+{
+    Head {
+        version: 1,
+        offset: 0,
+        game: drill_game(),
+        noise: no_noise(),
+    }
 }
 
 /// Whether a line may stand behind those of a drill.
@@ -73,8 +84,8 @@ pub(crate) fn after_drill(
             drill: DrillSoFar::Summed { number, first, sum },
         }),
         (DrillSoFar::Summed { number, first, sum }, Line::End) => Ok(State::Ended {
-            game: drill_game(),
-            noise: no_noise(),
+            head: drill_head(),
+            noises: Noises::from_vec(Vec::new(alloc)),
             names,
             body: Body::Drill { number, first, sum },
         }),

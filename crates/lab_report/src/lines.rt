@@ -1,13 +1,16 @@
 //! The lines of a report, each by its place.
-ghost use Rattle.std.specs.Prelude.{◌≡◌, ◌<◌, ◌++◌, ◌∷◌, [], true, All, length, slice_get, IfSome};
+ghost use Rattle.std.specs.Prelude.{◌≡◌, ◌<◌, ◌≤◌, ◌^◌, ◌++◌, ◌∷◌, [], true, All, length, slice_get, IfSome};
 ghost use Rattle.history_model.specs.Name.{IsName};
 ghost use Rattle.report_lines.specs.declared.line.Line.TheVariants as lines;
 ghost use Rattle.report_lines.specs.Texts.{is_line};
-ghost use Rattle.lab_report.specs.Text.{body_lines, drill_lines, entry_lines, first_lines, kind_of, lab_lines, lines_of, match_lines, rank_shown, shown_entry, shown_first, shown_match};
-ghost use Rattle.lab_report.specs.Valid.{IsBody, IsTable, IsValid};
+ghost use Rattle.lab_report.specs.Text.{body_lines, drill_lines, entry_lines, first_lines, kind_of, lab_lines, lines_of, match_lines, own_lines, rank_shown, shown_entry, shown_first, shown_match};
+ghost use Rattle.lab_report.specs.Valid.{IsBody, IsTable, IsValid, head_of};
 
 use crate::{Body, Names, Report};
-use report_lines::{Kind, Line, ShownEntry, ShownFirst, ShownMatch};
+use history_model::{Name, Noise};
+use report_lines::{
+    Kind, Line, ShownEntry, ShownFirst, ShownGame, ShownHead, ShownMatch, ShownOwn,
+};
 use result_lines::{EntryLine, MatchLine, Rank};
 
 fn kind_of(body: &Body) -> Kind
@@ -134,7 +137,7 @@ fn drill_at(
 }
 
 fn body_at(report: &Report, index: usize) -> Option<Line>
-    requires { IsBody (length report.now.names) report.now.game report.now.body }
+    requires { IsBody (length report.now.names) (head_of report.now) report.now.body }
     ensures { result ≡ slice_get (body_lines report.now.names report.now.body) index }
 {
     let names = &report.names;
@@ -157,7 +160,7 @@ fn body_at(report: &Report, index: usize) -> Option<Line>
 
 // How many lines a body has.
 fn body_count(report: &Report) -> usize
-    requires { IsBody (length report.now.names) report.now.game report.now.body }
+    requires { IsBody (length report.now.names) (head_of report.now) report.now.body }
     ensures { result ≡ length (body_lines report.now.names report.now.body) }
 {
     match &report.body {
@@ -171,30 +174,43 @@ fn body_count(report: &Report) -> usize
     }
 }
 
-// The game and the noise, which a drill doesn't show.
+fn own_at(names: &[Name], noises: &[Noise], index: usize) -> Option<Line>
+    ensures { result ≡ slice_get (own_lines names.now noises.now) index }
+{
+    let name = names.get(index)?;
+    let noise = noises.get(index)?;
+    Some(Line::Own(ShownOwn {
+        name: *name,
+        noise: *noise,
+    }))
+}
+
+// The game and the noises, which a drill doesn't show.
 fn lab_at(report: &Report, index: usize) -> Option<Line>
-    ensures { result ≡ slice_get (lab_lines (kind_of report.now.body) report.now.game report.now.noise) index }
+    requires { report.now.offset ≤ 1000000 }
+    ensures { result ≡ slice_get (lab_lines (kind_of report.now.body) report.now.offset report.now.game report.now.noise (own_lines report.now.names report.now.noises)) index }
 {
     match (kind_of(&report.body), index) {
         (Kind::Drill, _) => None,
-        (_, 0) => Some(Line::Game(report.game)),
+        (_, 0) => Some(Line::Game(ShownGame::of(&report.game, report.offset))),
         (_, 1) => Some(Line::Noise(report.noise)),
-        _ => None,
+        (_, index) => own_at(report.names.as_slice(), report.noises.as_slice(), index - 2),
     }
 }
 
 fn lab_count(report: &Report) -> usize
-    ensures { result ≡ length (lab_lines (kind_of report.now.body) report.now.game report.now.noise) }
+    requires { length report.now.noises ≤ length report.now.names }
+    ensures { result ≡ length (lab_lines (kind_of report.now.body) report.now.offset report.now.game report.now.noise (own_lines report.now.names report.now.noises)) }
 {
     match kind_of(&report.body) {
         Kind::Drill => 0,
-        _ => 2,
+        Kind::Match | Kind::Tournament => 2 + report.noises.as_slice().len(),
     }
 }
 
 // The line at a place behind the first line and the lab.
 fn body_line(report: &Report, index: usize) -> Option<Line>
-    requires { IsBody (length report.now.names) report.now.game report.now.body }
+    requires { IsBody (length report.now.names) (head_of report.now) report.now.body }
     ensures { result ≡ slice_get (body_lines report.now.names report.now.body ++ lines.End ∷ []) index }
 {
     let count = body_count(report);
@@ -212,10 +228,13 @@ pub(crate) fn line_at(report: &Report, index: usize) -> Option<Line>
     requires valid { IsValid report.now }
     ensures line { result ≡ slice_get (lines_of report.now) index }
     ensures printable { IfSome result (λ line. is_line line ≡ true) }
-    ensures few { IfSome result (λ line. index < 2148) }
+    ensures few { IfSome result (λ line. index < 2 ^ 16) }
 {
     if index == 0 {
-        return Some(Line::Head(kind_of(&report.body)));
+        return Some(Line::Head(ShownHead {
+            version: report.version,
+            kind: kind_of(&report.body),
+        }));
     }
     let behind = index - 1;
     let lab = lab_count(report);

@@ -25,18 +25,31 @@ pub enum Body {
     },
 }
 
-/// What a command tells of a lab.
-#[derive(Drop)]
-pub struct Report {
-    /// The version of the text, which is 1.
+/// What a report tells of its lab, apart from the entries.
+#[derive(Clone, Copy, Debug, PartialEq, Eq)]
+pub struct Head {
+    /// The version of the lab, 1 or 2.
     pub version: u32,
-    /// What was added to each payoff of the file; 0 in version 1.
+    /// What was added to each payoff of the file, from 0 to 1,000,000; 0 in version 1.
     pub offset: u32,
     /// The payoffs with the offset.
     pub game: Game,
-    /// The noise of every player.
+    /// The noise of every player that has none of its own.
     pub noise: Noise,
-    /// Noises of single entries; none in version 1.
+}
+
+/// What a command tells of a lab.
+#[derive(Drop)]
+pub struct Report {
+    /// The version of the text, 1 or 2; 1 of a drill.
+    pub version: u32,
+    /// What was added to each payoff of the file, from 0 to 1,000,000; 0 in version 1.
+    pub offset: u32,
+    /// The payoffs with the offset.
+    pub game: Game,
+    /// The noise of every player that has none of its own.
+    pub noise: Noise,
+    /// The noise of each name; none in version 1.
     pub noises: Noises,
     /// The names that the text shows, each once, in order of first appearance.
     pub names: Names,

@@ -1,7 +1,8 @@
 //! What the lines of a report that were read so far leave.
 use crate::table::Table;
-use crate::{Body, Leaders, Names};
-use history_model::{Game, Noise};
+use crate::{Body, Head, Leaders, Names, Noises};
+use history_model::Game;
+use report_names::OwnNoises;
 use result_lines::MatchLine;
 
 /// The lines of a body so far, by what the report is of.
@@ -34,15 +35,18 @@ pub(crate) enum DrillSoFar {
 pub(crate) enum State {
     Start,
     AfterHead {
+        version: u32,
         body: BodySoFar,
     },
     AfterGame {
-        body: BodySoFar,
+        version: u32,
+        offset: u32,
         game: Game,
+        body: BodySoFar,
     },
     InBody {
-        game: Game,
-        noise: Noise,
+        head: Head,
+        own: OwnNoises,
         names: Names,
         body: BodySoFar,
     },
@@ -51,8 +55,8 @@ pub(crate) enum State {
         drill: DrillSoFar,
     },
     Ended {
-        game: Game,
-        noise: Noise,
+        head: Head,
+        noises: Noises,
         names: Names,
         body: Body,
     },

@@ -5,15 +5,16 @@ ghost use Rattle.result_lines.specs.Totals.{AreSummable, total_of, wins_of, unde
 ghost use Rattle.result_lines.specs.Ranks.{rank_of};
 ghost use Rattle.lab_report.specs.Room.{HasTableRoom};
 ghost use Rattle.report_names.specs.Names.{place_in};
-ghost use Rattle.lab_report.specs.TableRules.{rank_read, unnamed, same_ends, adds_up, totals_in, same_rank, ranked_from, are_ranked, match_fits, entry_fits, is_whole, with_match, with_entry, table_allows, after_table};
+ghost use Rattle.lab_report.specs.TableRules.{rank_read, unnamed, adds_up, totals_in, same_rank, ranked_from, are_ranked, match_fits, entry_fits, is_whole, with_match, with_entry, table_allows, after_table};
 
-use crate::match_rules::{pays, placed_match};
+use crate::match_rules::{is_scored, placed_match, same_ends};
 use crate::state::{BodySoFar, State};
 use crate::table::Table;
-use crate::{Body, Names, place_in};
+use crate::{Body, Head, Names, place_in};
 use fixed_span::Span;
-use history_model::{Game, NoMemory, Noise};
+use history_model::NoMemory;
 use report_lines::{Line, ShownEntry, ShownMatch};
+use report_names::OwnNoises;
 use result_lines::{EntryLine, MatchLine, Rank, rank_of, total_of, undecided_of, wins_of};
 use std::alloc::Global;
 
@@ -36,14 +37,6 @@ fn unnamed(entry: &ShownEntry) -> EntryLine
         wins: entry.wins,
         undecided: entry.undecided,
     }
-}
-
-fn same_ends(a: Span, b: Span) -> bool
-    ensures { result ≡ same_ends a b }
-{
-    let (a_lo, a_hi) = a.ends();
-    let (b_lo, b_hi) = b.ends();
-    a_lo == b_lo && a_hi == b_hi
 }
 
 fn adds_up(matches: &[MatchLine], place: u32, entry: &ShownEntry) -> bool
@@ -100,13 +93,14 @@ fn are_ranked(alloc: Global, entries: &[EntryLine]) -> Result<bool, NoMemory>
     Ok(all_ranked(&totals, entries))
 }
 
-fn match_fits(game: &Game, table: &Table, found: &ShownMatch) -> bool
-    requires { is_match found.now ≡ true }
-    ensures { result ≡ match_fits game.now table.now found.now }
+fn match_fits(head: &Head, table: &Table, found: &ShownMatch) -> bool
+    requires offset { head.now.offset ≤ 1000000 }
+    requires line { is_match found.now ≡ true }
+    ensures { result ≡ match_fits head.now table.now found.now }
 {
     table.entries.as_slice().is_empty()
         && table.matches.as_slice().len() < 2080
-        && pays(game, found, &found.tally)
+        && is_scored(head, found)
 }
 
 fn entry_fits(names: &Names, table: &Table, entry: &ShownEntry) -> bool
@@ -135,17 +129,18 @@ fn is_whole(alloc: Global, names: &Names, table: &Table) -> Result<bool, NoMemor
 /// Whether a line may stand behind those of a table.
 pub(crate) fn table_allows(
     alloc: Global,
-    game: &Game,
+    head: &Head,
     names: &Names,
     table: &Table,
     next: &Line,
 ) -> Result<bool, NoMemory>
+    requires offset { head.now.offset ≤ 1000000 }
     requires line { is_line next.now ≡ true }
     requires room { HasTableRoom names.now table.now }
-    ensures { IfOk result (λ allowed. allowed ≡ table_allows game.now names.now table.now next.now) }
+    ensures { IfOk result (λ allowed. allowed ≡ table_allows head.now names.now table.now next.now) }
 {
     match next {
-        Line::Match(found) => Ok(match_fits(game, table, found)),
+        Line::Match(found) => Ok(match_fits(head, table, found)),
         Line::Entry(entry) => Ok(entry_fits(names, table, entry)),
         Line::End => is_whole(alloc, names, table),
         _ => Ok(false),
@@ -154,14 +149,14 @@ pub(crate) fn table_allows(
 
 /// What a line behind those of a table leaves.
 pub(crate) fn after_table(
-    game: Game,
-    noise: Noise,
+    head: Head,
+    own: OwnNoises,
     mut names: Names,
     table: Table,
     next: Line,
 ) -> Result<State, NoMemory>
     requires { HasTableRoom names table }
-    ensures { IfOk result (λ state. state ≡ after_table game noise names table next) }
+    ensures { IfOk result (λ state. state ≡ after_table head own names table next) }
 {
     let table = match next {
         Line::Match(found) => {
@@ -174,8 +169,8 @@ pub(crate) fn after_table(
         }
         Line::End => {
             return Ok(State::Ended {
-                game,
-                noise,
+                head,
+                noises: own.noises,
                 names,
                 body: Body::Tournament {
                     matches: table.matches,
@@ -187,8 +182,8 @@ pub(crate) fn after_table(
         _ => table,
     };
     Ok(State::InBody {
-        game,
-        noise,
+        head,
+        own,
         names,
         body: BodySoFar::Tournament { table },
     })

@@ -1,6 +1,8 @@
 //! Numbers, cut texts, and points as texts.
 use std::test::Fail;
-use texts::{Chance, Score, cut, first_line, number_of, small, value_of};
+use texts::{
+    Chance, Score, SignedScore, cut, first_line, number_of, point_at, signed_at, small, value_of,
+};
 
 #[test]
 fn reads_numbers(rt: HostRuntime) {
@@ -43,6 +45,28 @@ fn cuts_texts(rt: HostRuntime) {
 }
 
 #[test]
+fn reads_points(rt: HostRuntime) {
+    let texts: [(&str, Option<i128>, &str); 7] = [
+        ("1.000000000000", Some(1_000_000_000_000), ""),
+        ("-1.000000000000", Some(-1_000_000_000_000), ""),
+        ("-0.100000000000..0.1", Some(-100_000_000_000), "..0.1"),
+        ("-0.000000000000", None, ""),
+        ("0.000000000000", Some(0), ""),
+        ("--1.000000000000", None, ""),
+        ("-1.00000000000", None, ""),
+    ];
+    for (text, units, rest) in texts {
+        let found = signed_at(text.as_bytes(), 12);
+        assert_eq!(rt; found.is_some(), units.is_some(), "at {text}");
+        if let (Some((found, tail)), Some(units)) = (found, units) {
+            assert_eq!(rt; found, units, "at {text}");
+            assert_eq!(rt; tail, rest.as_bytes(), "at {text}");
+        }
+    }
+    assert_eq!(rt; point_at(b"-1.000000000", 9).is_none(), true);
+}
+
+#[test]
 fn prints_points(rt: HostRuntime) -> Result<(), Fail> {
     let score = Score {
         units: 2_000_000_000_034,
@@ -52,5 +76,9 @@ fn prints_points(rt: HostRuntime) -> Result<(), Fail> {
     };
     let text = format!(in rt.alloc(); "{score}|{chance}")?;
     assert_eq!(rt; text.as_str(), "2.000000000034|1.000000000");
+    let low = SignedScore { units: -1 };
+    let none = SignedScore { units: 0 };
+    let text = format!(in rt.alloc(); "{low}|{none}")?;
+    assert_eq!(rt; text.as_str(), "-0.000000000001|0.000000000000");
     Ok(())
 }

@@ -1,18 +1,17 @@
 -- What the tests of a line say.
-use Rattle.std.proofs.Common.{◌≡◌, ℕ, ◌*◌, ◌^◌, ◌<◌, ◌≤◌, Bool, true, false, leb, ◌&&◌, ℤ, pos, ◌≤ℤ◌, Some, refl, arith}
-use Rattle.std.specs.Prelude.{int_le}
+use Rattle.std.proofs.Common.{◌≡◌, ℕ, ◌*◌, ◌^◌, ◌<◌, ◌≤◌, Bool, true, false, leb, ◌&&◌, ℤ, pos, negsuc, ◌≤ℤ◌, Some, refl, arith}
+use Rattle.std.specs.Prelude.{int_le, neg_ℤ, unsigned_abs}
 use Rattle.std.proofs.lemmas.Bool.{eqb-true}
 use Rattle.std.proofs.lemmas.Bool.Decides.{nat_tests}
 use Rattle.std.proofs.lemmas.Int.{ints}
 use Rattle.history_model.specs.declared.tally.Tally.{Tally}
-use Rattle.history_model.specs.Game.{Payoffs}
 use Rattle.history_model.specs.Name.{is_name}
 use Rattle.history_model.specs.Noise.{FlipRate}
 use Rattle.history_model.specs.Tally.{total}
-use Rattle.fixed_span.specs.Span.{Ends}
-use Rattle.fixed_span.specs.Texts.{IsShown}
+use Rattle.fixed_span.specs.Span.{Ends, point}
 use Rattle.report_lines.specs.declared.line.ShownMatch.{ShownMatch}
-use Rattle.report_lines.specs.Texts.{is_payoff, are_payoffs, is_noise, is_turns, is_score, counts_are, is_match, is_total, is_count, is_number}
+use Rattle.report_lines.specs.Fields.{is_within, is_amount}
+use Rattle.report_lines.specs.Texts.{is_noise, is_turns, is_score, counts_are, is_match, is_total, are_points, is_count, is_number}
 
 pub both_true : (a b : Bool) → (a && b) ≡ true → (a ≡ true) × (b ≡ true)
 both_true true b h = (refl, h)
@@ -20,22 +19,6 @@ both_true false b h = absurd cc
 
 leb_is : (a b : ℕ) → leb a b ≡ true → a ≤ b
 leb_is a b h = grind (arith, nat_tests)
-
-pub record GameParts (game : Payoffs) : Type 0 where
-  pub r : is_payoff game.r ≡ true
-  pub s : is_payoff game.s ≡ true
-  pub t : is_payoff game.t ≡ true
-  pub p : is_payoff game.p ≡ true
-
-pub game_parts : (game : Payoffs) → are_payoffs game ≡ true → GameParts game
-game_parts game h =
-    let a = both_true (is_payoff game.r && is_payoff game.s) (is_payoff game.t && is_payoff game.p) h in
-    let b = both_true (is_payoff game.r) (is_payoff game.s) a.0 in
-    let d = both_true (is_payoff game.t) (is_payoff game.p) a.1 in
-    record { r = b.0; s = b.1; t = d.0; p = d.1 }
-
-pub payoff_few : (pay : ℕ) → is_payoff pay ≡ true → pay ≤ 1000000
-payoff_few pay h = leb_is pay 1000000 h
 
 pub noise_few : (noise : FlipRate) → is_noise noise ≡ true → (noise.n ≤ 1000) × (noise.e ≤ 1000)
 noise_few noise h =
@@ -51,18 +34,43 @@ turns_few turns h = leb_is turns (10 ^ 12) (both_true (leb 1 turns) (leb turns (
 int_le_is : (a b : ℤ) → int_le a b ≡ true → a ≤ℤ b
 int_le_is a b h = grind (arith, ints)
 
-pub total_shown : (total : Ends) → is_total total ≡ true → IsShown total
-total_shown total h =
-    let a = both_true (int_le (pos 0) total.lo) (int_le total.lo total.hi && int_le total.hi (pos (10 ^ 37))) h in
-    let b = both_true (int_le total.lo total.hi) (int_le total.hi (pos (10 ^ 37))) a.1 in
-    record { low = int_le_is (pos 0) total.lo a.0; ordered = int_le_is total.lo total.hi b.0; high = int_le_is total.hi (pos (10 ^ 37)) b.1 }
+abs_few : (z : ℤ) (m : ℕ) → neg_ℤ (pos m) ≤ℤ z → z ≤ℤ pos m → unsigned_abs z ≤ m
+abs_few (pos n) m low high = omega (arith, ints, high)
+abs_few (negsuc n) m low high = omega (arith, ints, low)
 
-pub score_shown : (score : Ends) → is_score score ≡ true → IsShown score
-score_shown score h =
-    let a = both_true (int_le (pos 0) score.lo) (int_le score.lo score.hi && int_le score.hi (pos (10 ^ 33))) h in
-    let b = both_true (int_le score.lo score.hi) (int_le score.hi (pos (10 ^ 33))) a.1 in
-    let high : score.hi ≤ℤ pos (10 ^ 33) = int_le_is score.hi (pos (10 ^ 33)) b.1 in
-    record { low = int_le_is (pos 0) score.lo a.0; ordered = int_le_is score.lo score.hi b.0; high = omega (arith, ints, high) }
+-- a score that is shown
+pub record IsTold (x : Ends) : Type 0 where
+  pub ordered : x.lo ≤ℤ x.hi
+  pub lo : unsigned_abs x.lo ≤ 10 ^ 37
+  pub hi : unsigned_abs x.hi ≤ 10 ^ 37
+
+within_told : (most : ℕ) (x : Ends) → most ≤ 10 ^ 37 → is_within most x ≡ true → IsTold x
+within_told most x few h =
+    let a = both_true (int_le (neg_ℤ (pos most)) x.lo) (int_le x.lo x.hi && int_le x.hi (pos most)) h in
+    let b = both_true (int_le x.lo x.hi) (int_le x.hi (pos most)) a.1 in
+    let low = int_le_is (neg_ℤ (pos most)) x.lo a.0 in
+    let ordered = int_le_is x.lo x.hi b.0 in
+    let high = int_le_is x.hi (pos most) b.1 in
+    let lo : unsigned_abs x.lo ≤ most = abs_few x.lo most low (omega (arith, ints, ordered, high)) in
+    let hi : unsigned_abs x.hi ≤ most = abs_few x.hi most (omega (arith, ints, ordered, low)) high in
+    record { ordered = ordered; lo = omega (arith, lo, few); hi = omega (arith, hi, few) }
+
+pub total_told : (total : Ends) → is_total total ≡ true → IsTold total
+total_told total h = within_told (10 ^ 37) total (omega arith) h
+
+pub score_told : (score : Ends) → is_score score ≡ true → IsTold score
+score_told score h = within_told (10 ^ 33) score (omega arith) h
+
+pub points_told : (units : ℤ) → are_points units ≡ true → IsTold (point units)
+points_told units h =
+    let a = both_true (int_le (pos 0) units) (int_le units (pos (10 ^ 37))) h in
+    let low : pos 0 ≤ℤ units = int_le_is (pos 0) units a.0 in
+    let high : units ≤ℤ pos (10 ^ 37) = int_le_is units (pos (10 ^ 37)) a.1 in
+    let few : unsigned_abs units ≤ 10 ^ 37 = abs_few units (10 ^ 37) (omega (arith, ints, low)) high in
+    record { ordered = omega (arith, ints); lo = few; hi = few }
+
+pub amount_few : (n : ℕ) → is_amount n ≡ true → n ≤ 1000000
+amount_few n h = leb_is n 1000000 h
 
 -- no count is above the turns
 pub record CountsFew (tally : Tally) : Type 0 where

@@ -5,70 +5,25 @@ use Rattle.std.specs.Fmt.{decimal}
 use Rattle.std.specs.Str.{bytes_eq}
 use Rattle.std.proofs.lemmas.Slice.Eq.{bytes_eq-Decides}
 use Rattle.history_model.specs.declared.tally.Tally.{Tally}
-use Rattle.history_model.specs.Game.{Payoffs}
-use Rattle.history_model.specs.Noise.{FlipRate}
 use Rattle.texts.specs.Cuts.{lacks}
 use Rattle.texts.specs.Numbers.{◌>>=◌, small}
 use Rattle.fixed_span.specs.Span.{point}
 use Rattle.fixed_span.specs.Verdict.{verdict}
 use Rattle.fixed_span.specs.declared.ordering.Verdict.{Verdict}
 use Rattle.fixed_span.specs.declared.ordering.Verdict.TheVariants as verdicts
-use Rattle.report_lines.specs.declared.line.Kind.TheVariants as kinds
 use Rattle.report_lines.specs.declared.line.ShownMatch.{ShownMatch}
 use Rattle.report_lines.specs.declared.line.ShownFirst.{ShownFirst}
 use Rattle.report_lines.specs.declared.line.Line.{Line}
 use Rattle.report_lines.specs.declared.line.Line.TheVariants as lines
-use Rattle.report_lines.specs.Texts.{dilemma_word, is_dilemma, game_text, noise_text, players_text, score_text, winner_word, scores_text, counts_text, match_text, line_text, are_payoffs, is_noise, counts_are, is_match, is_line, drill_text, points_text, first_form, total_text, is_number, are_points, is_first}
-use Rattle.report_lines.specs.Reading.{rest, kind_of, game_of, noise_of, tally_of, counts_of, scores_of, match_of, entry_of, first_of, drill_line, fixed, guess, if_text, line_of, LinesAreExact}
-use Rattle.report_lines.proofs.FieldLaws.{Below, IsBar, no_digit, number_lacks, small_again, payoff_again, name_lacks, name_again, lacks_either, span_lacks, score_lacks, score_again, points_again}
+use Rattle.report_lines.specs.Texts.{players_text, score_text, winner_word, scores_text, counts_text, match_text, line_text, counts_are, is_match, is_line, drill_text, points_text, first_form, total_text, is_number, are_points, is_first}
+use Rattle.report_lines.specs.Reading.{rest, head_of, game_of, own_of, tally_of, counts_of, scores_of, match_of, entry_of, first_of, drill_line, fixed, guess, if_text, line_of, LinesAreExact}
+use Rattle.report_lines.proofs.FieldLaws.{Below, IsBar, no_digit, number_lacks, small_again, name_lacks, name_again, score_lacks, score_again, points_again, noise_fields}
+use Rattle.report_lines.proofs.HeadLaws.{head_exact, game_exact, own_exact}
 use Rattle.report_lines.proofs.EntryLaws.{entry_exact}
 use Rattle.report_lines.proofs.FirstLaws.{first_exact}
-use Rattle.report_lines.proofs.InRange.{both_true, game_parts, payoff_few, noise_few, CountsFew, counts_few, MatchParts, match_parts, number_few, total_shown}
+use Rattle.report_lines.proofs.InRange.{both_true, CountsFew, counts_few, MatchParts, match_parts, number_few, score_told, points_told}
 
 -- ---- a line is guessed from its text
-
-game_again : Below → (game : Payoffs) → are_payoffs game ≡ true → game_of (rest (game_text game)) ≡ Some game
-unfolding game_of
-game_again l game h =
-    let g = game_parts game h in
-    let bar : IsBar 124 = inr refl in
-    let r = number_lacks l 124 game.r bar (omega (arith, payoff_few game.r g.r)) in
-    let s = number_lacks l 124 game.s bar (omega (arith, payoff_few game.s g.s)) in
-    let t = number_lacks l 124 game.t bar (omega (arith, payoff_few game.t g.t)) in
-    let p = number_lacks l 124 game.p bar (omega (arith, payoff_few game.p g.p)) in
-    let t4 : List ℕ = codes "dilemma|" ++ dilemma_word (is_dilemma game) in
-    let t3 : List ℕ = decimal game.p ++ 124 ∷ t4 in
-    let t2 : List ℕ = decimal game.t ++ 124 ∷ t3 in
-    let t1 : List ℕ = decimal game.s ++ 124 ∷ t2 in
-    rw (
-      l.cuts.before_it 124 (decimal game.r) t1 r,
-      l.cuts.behind_it 124 (decimal game.r) t1 r,
-      payoff_again l game.r g.r,
-      l.cuts.before_it 124 (decimal game.s) t2 s,
-      l.cuts.behind_it 124 (decimal game.s) t2 s,
-      payoff_again l game.s g.s,
-      l.cuts.before_it 124 (decimal game.t) t3 t,
-      l.cuts.behind_it 124 (decimal game.t) t3 t,
-      payoff_again l game.t g.t,
-      l.cuts.before_it 124 (decimal game.p) t4 p,
-      payoff_again l game.p g.p,
-    ) refl
-
-noise_again : Below → (noise : FlipRate) → is_noise noise ≡ true → noise_of (rest (noise_text noise)) ≡ Some noise
-unfolding noise_of
-noise_again l noise h =
-    let few = noise_few noise h in
-    let bar : IsBar 124 = inr refl in
-    let n = number_lacks l 124 noise.n bar (omega (arith, few.0)) in
-    let e = number_lacks l 124 noise.e bar (omega (arith, few.1)) in
-    rw (
-      l.cuts.before_it 124 (decimal noise.n) (decimal noise.e) n,
-      l.cuts.behind_it 124 (decimal noise.n) (decimal noise.e) n,
-      small_again l noise.n (omega (arith, few.0)),
-      l.cuts.before_none 124 (decimal noise.e) e,
-      small_again l noise.e (omega (arith, few.1)),
-      h,
-    ) refl
 
 tally_again : Below → (tally : Tally) → CountsFew tally → counts_of (counts_text (Some tally)) ≡ Some (Some tally)
 unfolding counts_of tally_of
@@ -127,8 +82,10 @@ unfolding scores_of
 scores_again l m p =
     let bar : IsBar 124 = inr refl in
     let word : List ℕ = winner_word (verdict m.left_score m.right_score) in
-    let left = score_lacks l 124 m.left_score bar p.left_score in
-    let right = score_lacks l 124 m.right_score bar p.right_score in
+    let told_left = score_told m.left_score p.left_score in
+    let told_right = score_told m.right_score p.right_score in
+    let left = score_lacks l 124 m.left_score bar told_left in
+    let right = score_lacks l 124 m.right_score bar told_right in
     let t2 : List ℕ = counts_text m.tally in
     let t1 : List ℕ = word ++ 124 ∷ t2 in
     let t0 : List ℕ = score_text m.right_score ++ 124 ∷ t1 in
@@ -136,10 +93,10 @@ scores_again l m p =
     ap scores_of regroup ∙ rw (
       l.cuts.before_it 124 (score_text m.left_score) t0 left,
       l.cuts.behind_it 124 (score_text m.left_score) t0 left,
-      score_again l m.left_score p.left_score,
+      score_again l m.left_score told_left,
       l.cuts.before_it 124 (score_text m.right_score) t1 right,
       l.cuts.behind_it 124 (score_text m.right_score) t1 right,
-      score_again l m.right_score p.right_score,
+      score_again l m.right_score told_right,
       l.cuts.behind_it 124 word t2 (winner_lacks_bar (verdict m.left_score m.right_score)),
       counts_again l m.turns m.tally p.turns p.counts,
     ) refl
@@ -181,21 +138,20 @@ drill_again l number h =
 total_again : Below → (sum : ℤ) → are_points sum ≡ true → guess (total_text sum) ≡ Some (lines.Total sum)
 unfolding guess fixed drill_line
 total_again l sum h =
-    let shown = total_shown (point sum) h in
+    let told = points_told sum h in
     let bar : IsBar 124 = inr refl in
-    rw (l.cuts.before_none 124 (points_text sum) (span_lacks l 124 (point sum) bar shown), points_again l sum shown) refl
+    rw (l.cuts.before_none 124 (points_text sum) (score_lacks l 124 (point sum) bar told), points_again l sum told) refl
 
 first_guessed : Below → (x : ShownFirst) → is_first x ≡ true → guess (codes "first|" ++ first_form.text x) ≡ Some (lines.First x)
 unfolding guess fixed drill_line first_of
 first_guessed l x h = rw ((first_exact l).again x h) refl
 
 guess_again : Below → (line : Line) → is_line line ≡ true → guess (line_text line) ≡ Some line
-unfolding guess fixed kind_of entry_of
-guess_again l (lines.Head kinds.Match) h = refl
-guess_again l (lines.Head kinds.Tournament) h = refl
-guess_again l (lines.Head kinds.Drill) h = refl
-guess_again l (lines.Game game) h = rw (game_again l game h) refl
-guess_again l (lines.Noise noise) h = rw (noise_again l noise h) refl
+unfolding guess fixed head_of game_of own_of entry_of
+guess_again l (lines.Head x) h = rw ((head_exact l).again x h) refl
+guess_again l (lines.Game game) h = rw ((game_exact l).again game h) refl
+guess_again l (lines.Noise noise) h = rw ((noise_fields l).again noise h) refl
+guess_again l (lines.Own x) h = rw ((own_exact l).again x h) refl
 guess_again l (lines.Match m) h = rw (match_again l m h) refl
 guess_again l (lines.Entry x) h = rw ((entry_exact l).again x h) refl
 guess_again l (lines.Drill number) h = drill_again l number h
@@ -230,22 +186,6 @@ takes t line e =
 
 -- ---- no LF stands in a line
 
-game_line : Below → (game : Payoffs) → are_payoffs game ≡ true → lacks 10 (game_text game) ≡ true
-game_line l game h =
-    let g = game_parts game h in
-    let feed : IsBar 10 = inl refl in
-    l.cuts.together 10 (decimal game.r) _ (number_lacks l 10 game.r feed (omega (arith, payoff_few game.r g.r)))
-    (l.cuts.together 10 (decimal game.s) _ (number_lacks l 10 game.s feed (omega (arith, payoff_few game.s g.s)))
-    (l.cuts.together 10 (decimal game.t) _ (number_lacks l 10 game.t feed (omega (arith, payoff_few game.t g.t)))
-    (l.cuts.together 10 (decimal game.p) _ (number_lacks l 10 game.p feed (omega (arith, payoff_few game.p g.p)))
-    (lacks_either 10 (is_dilemma game) (codes "yes") (codes "no") refl refl))))
-
-noise_line : Below → (noise : FlipRate) → is_noise noise ≡ true → lacks 10 (noise_text noise) ≡ true
-noise_line l noise h =
-    let few = noise_few noise h in
-    let feed : IsBar 10 = inl refl in
-    l.cuts.together 10 (decimal noise.n) _ (number_lacks l 10 noise.n feed (omega (arith, few.0))) (number_lacks l 10 noise.e feed (omega (arith, few.1)))
-
 tally_line : Below → (tally : Tally) → CountsFew tally → lacks 10 (counts_text (Some tally)) ≡ true
 tally_line l tally few =
     let feed : IsBar 10 = inl refl in
@@ -268,8 +208,8 @@ match_line l m h =
     (l.cuts.together 10 m.right _ (name_lacks 10 m.right feed p.right)
     (l.cuts.together 10 (decimal m.turns) _ (number_lacks l 10 m.turns feed (omega (arith, p.turns))) refl)) in
     let scores : lacks 10 (scores_text m.left_score m.right_score) ≡ true =
-    l.cuts.together 10 (score_text m.left_score) _ (score_lacks l 10 m.left_score feed p.left_score)
-    (l.cuts.together 10 (score_text m.right_score) _ (score_lacks l 10 m.right_score feed p.right_score)
+    l.cuts.together 10 (score_text m.left_score) _ (score_lacks l 10 m.left_score feed (score_told m.left_score p.left_score))
+    (l.cuts.together 10 (score_text m.right_score) _ (score_lacks l 10 m.right_score feed (score_told m.right_score p.right_score))
     (l.cuts.together 10 (winner_word (verdict m.left_score m.right_score)) _ (winner_lacks_end (verdict m.left_score m.right_score)) refl)) in
     l.cuts.together 10 (players_text m.left m.right m.turns) _ players
     (l.cuts.together 10 (scores_text m.left_score m.right_score) _ scores (counts_line l m.turns m.tally p.turns p.counts))
@@ -281,14 +221,13 @@ drill_one l number h =
     l.cuts.together 10 (decimal number) _ (l.numbers.digits 10 number (no_digit 10 feed) (omega (arith, few))) refl
 
 total_one : Below → (sum : ℤ) → are_points sum ≡ true → lacks 10 (total_text sum) ≡ true
-total_one l sum h = let feed : IsBar 10 = inl refl in span_lacks l 10 (point sum) feed (total_shown (point sum) h)
+total_one l sum h = let feed : IsBar 10 = inl refl in score_lacks l 10 (point sum) feed (points_told sum h)
 
 one_line : Below → (line : Line) → is_line line ≡ true → lacks 10 (line_text line) ≡ true
-one_line l (lines.Head kinds.Match) h = refl
-one_line l (lines.Head kinds.Tournament) h = refl
-one_line l (lines.Head kinds.Drill) h = refl
-one_line l (lines.Game game) h = game_line l game h
-one_line l (lines.Noise noise) h = noise_line l noise h
+one_line l (lines.Head x) h = (head_exact l).one_line x h
+one_line l (lines.Game game) h = (game_exact l).one_line game h
+one_line l (lines.Noise noise) h = (noise_fields l).one_line noise h
+one_line l (lines.Own x) h = (own_exact l).one_line x h
 one_line l (lines.Match m) h = match_line l m h
 one_line l (lines.Entry x) h = (entry_exact l).one_line x h
 one_line l (lines.Drill number) h = drill_one l number h

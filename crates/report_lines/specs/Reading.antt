@@ -2,49 +2,18 @@
 use Rattle.std.specs.Prelude.{codes, ◌≡◌, ℕ, ◌&&◌, true, List, Option, Some, None, if◌then◌else◌}
 use Rattle.std.specs.Str.{bytes_eq}
 use Rattle.history_model.specs.declared.tally.Tally.{Tally}
-use Rattle.history_model.specs.Game.{Payoffs}
-use Rattle.history_model.specs.Noise.{FlipRate}
 use Rattle.texts.specs.Cuts.{lacks}
 use Rattle.texts.specs.Numbers.{◌>>=◌, small}
 use Rattle.fixed_span.specs.Span.{Ends}
-use Rattle.report_lines.specs.declared.line.Kind.{Kind}
-use Rattle.report_lines.specs.declared.line.Kind.TheVariants as kinds
 use Rattle.report_lines.specs.declared.line.ShownMatch.{ShownMatch}
 use Rattle.report_lines.specs.declared.line.Line.{Line}
 use Rattle.report_lines.specs.declared.line.Line.TheVariants as lines
-use Rattle.report_lines.specs.Texts.{is_payoff, is_noise, line_text, is_line}
-pub use Rattle.report_lines.specs.Fields.{field, rest, name_of, score_of}
-unfoldable pub use Rattle.report_lines.specs.Fields.{count_of, rank_of, points_of}
+use Rattle.report_lines.specs.Texts.{line_text, is_line}
+pub use Rattle.report_lines.specs.Fields.{field, rest, name_of}
+unfoldable pub use Rattle.report_lines.specs.Fields.{score_of, count_of, rank_of, points_of, amount_of, payoff_of, kind_of, noise_of}
+unfoldable pub use Rattle.report_lines.specs.HeadForms.{head_of, game_of, own_of}
 unfoldable pub use Rattle.report_lines.specs.EntryForm.{entry_of}
 unfoldable pub use Rattle.report_lines.specs.FirstForm.{first_of}
-
--- what a report is of, by its word
-unfoldable pub kind_of : List ℕ → Option Kind
-kind_of t = if bytes_eq t (codes "match") then Some kinds.Match else if bytes_eq t (codes "tournament") then Some kinds.Tournament else if bytes_eq t (codes "drill") then Some kinds.Drill else None
-
--- the payoff that a field shows
-unfoldable pub payoff_of : List ℕ → Option ℕ
-payoff_of t = small t >>= λ pay. if is_payoff pay then Some pay else None
-
--- the payoffs, in what stands behind `game`
-unfoldable pub game_of : List ℕ → Option Payoffs
-game_of t = do
-  r ← payoff_of (field t)
-  s ← payoff_of (field (rest t))
-  u ← payoff_of (field (rest (rest t)))
-  p ← payoff_of (field (rest (rest (rest t))))
-  Some (record { r = r; s = s; t = u; p = p })
-
--- a noise that is one
-abbrev pub in_range : FlipRate → Option FlipRate
-in_range noise = if is_noise noise then Some noise else None
-
--- the noise, in what stands behind `noise`
-unfoldable pub noise_of : List ℕ → Option FlipRate
-noise_of t = do
-  n ← small (field t)
-  e ← small (field (rest t))
-  in_range (record { n = n; e = e })
 
 -- the counts, in what stands behind the numbers of moves C
 unfoldable pub tally_of : List ℕ → Option Tally
@@ -88,9 +57,10 @@ unfoldable pub fixed : List ℕ → List ℕ → Option Line
 fixed word t =
     if bytes_eq word (codes "match") then (match_of t >>= λ m. Some (lines.Match m)) else
     if bytes_eq word (codes "entry") then (entry_of t >>= λ x. Some (lines.Entry x)) else
-    if bytes_eq word (codes "axlab") then (kind_of (rest t) >>= λ kind. Some (lines.Head kind)) else
+    if bytes_eq word (codes "axlab") then (head_of t >>= λ x. Some (lines.Head x)) else
     if bytes_eq word (codes "game") then (game_of t >>= λ game. Some (lines.Game game)) else
     if bytes_eq word (codes "noise") then (noise_of t >>= λ noise. Some (lines.Noise noise)) else
+    if bytes_eq word (codes "own") then (own_of t >>= λ x. Some (lines.Own x)) else
     if bytes_eq word (codes "end") then Some lines.End else drill_line word t
 
 -- a line by its first field

@@ -1,52 +1,20 @@
 -- The lines of reports and their texts, without the LF that ends each. A line is fields joined by `|`.
-use Rattle.std.specs.Prelude.{codes, ℕ, ◌+◌, ◌*◌, ◌^◌, ◌&&◌, ◌==◌, Bool, true, nat_lt, nat_le, ℤ, pos, int_le, List, ◌++◌, Option, Some, None, if◌then◌else◌}
+use Rattle.std.specs.Prelude.{codes, ℕ, ◌+◌, ◌^◌, ◌&&◌, ◌==◌, Bool, true, nat_lt, nat_le, ℤ, List, ◌++◌, Option, Some, None}
 use Rattle.std.specs.Fmt.{decimal}
 use Rattle.history_model.specs.declared.tally.Tally.{Tally}
-use Rattle.history_model.specs.Game.{Payoffs}
 use Rattle.history_model.specs.Name.{is_name}
-use Rattle.history_model.specs.Noise.{FlipRate}
 use Rattle.history_model.specs.Tally.{total}
 use Rattle.fixed_span.specs.Span.{Ends}
 use Rattle.fixed_span.specs.Verdict.{verdict}
 use Rattle.fixed_span.specs.declared.ordering.Verdict.{Verdict}
 use Rattle.fixed_span.specs.declared.ordering.Verdict.TheVariants as verdicts
-use Rattle.report_lines.specs.declared.line.Kind.{Kind}
-use Rattle.report_lines.specs.declared.line.Kind.TheVariants as kinds
 use Rattle.report_lines.specs.declared.line.ShownMatch.{ShownMatch}
 use Rattle.report_lines.specs.declared.line.Line.{Line}
 use Rattle.report_lines.specs.declared.line.Line.TheVariants as lines
-pub use Rattle.report_lines.specs.Fields.{score_text, rank_text, points_text, is_total, is_count, is_rank, are_points}
+pub use Rattle.report_lines.specs.Fields.{kind_word, noise_text, dilemma_word, score_text, rank_text, points_text, is_noise, is_score, is_total, is_count, is_rank, are_points}
+pub use Rattle.report_lines.specs.HeadForms.{head_form, is_head, game_form, is_game, is_dilemma, own_form, is_own}
 pub use Rattle.report_lines.specs.EntryForm.{entry_form, is_entry}
 pub use Rattle.report_lines.specs.FirstForm.{first_form, is_first}
-
--- what a report is of, as a word
-abbrev pub kind_word : Kind → List ℕ
-kind_word kinds.Match = codes "match"
-kind_word kinds.Tournament = codes "tournament"
-kind_word kinds.Drill = codes "drill"
-
--- the first line: the version, and what the report is of
-abbrev pub head_text : Kind → List ℕ
-head_text kind = codes "axlab|1|" ++ kind_word kind
-
--- T > R > P > S and 2R > T + S
-abbrev pub is_dilemma : Payoffs → Bool
-is_dilemma game =
-    (nat_lt game.r game.t && nat_lt game.p game.r) && (nat_lt game.s game.p && nat_lt (game.t + game.s) (2 * game.r))
-
--- whether a game is a prisoner's dilemma, as a word
-abbrev pub dilemma_word : Bool → List ℕ
-dilemma_word dilemma = if dilemma then codes "yes" else codes "no"
-
--- the payoffs, and whether they make a prisoner's dilemma
-abbrev pub game_text : Payoffs → List ℕ
-game_text game =
-    codes "game|" ++ (decimal game.r ++ (codes "|" ++ (decimal game.s ++ (codes "|" ++ (decimal game.t ++ (codes "|" ++ (decimal game.p
-    ++ (codes "|dilemma|" ++ dilemma_word (is_dilemma game)))))))))
-
--- the noise n/e of every player
-abbrev pub noise_text : FlipRate → List ℕ
-noise_text noise = codes "noise|" ++ (decimal noise.n ++ (codes "|" ++ decimal noise.e))
 
 -- who played, and how long
 abbrev pub players_text : List ℕ → List ℕ → ℕ → List ℕ
@@ -86,9 +54,10 @@ total_text sum = codes "total|" ++ points_text sum
 
 -- each kind of line
 abbrev pub line_text : Line → List ℕ
-line_text (lines.Head kind) = head_text kind
-line_text (lines.Game game) = game_text game
-line_text (lines.Noise noise) = noise_text noise
+line_text (lines.Head x) = codes "axlab|" ++ head_form.text x
+line_text (lines.Game game) = codes "game|" ++ game_form.text game
+line_text (lines.Noise noise) = codes "noise|" ++ noise_text noise
+line_text (lines.Own x) = codes "own|" ++ own_form.text x
 line_text (lines.Match m) = match_text m
 line_text (lines.Entry x) = codes "entry|" ++ entry_form.text x
 line_text (lines.Drill number) = drill_text number
@@ -98,25 +67,9 @@ line_text lines.End = codes "end"
 
 -- ---- the ranges of what a line shows
 
--- from 0 to 1,000,000
-abbrev pub is_payoff : ℕ → Bool
-is_payoff pay = nat_le pay 1000000
-
--- all four payoffs are in range
-abbrev pub are_payoffs : Payoffs → Bool
-are_payoffs game = (is_payoff game.r && is_payoff game.s) && (is_payoff game.t && is_payoff game.p)
-
--- a chance of at most one half, over a denominator from 1 to 1000
-abbrev pub is_noise : FlipRate → Bool
-is_noise noise = (nat_le 1 noise.e && nat_le noise.e 1000) && nat_le (2 * noise.n) noise.e
-
 -- from 1 to 10^12
 abbrev pub is_turns : ℕ → Bool
 is_turns turns = nat_le 1 turns && nat_le turns (10 ^ 12)
-
--- from 0 to 10^33 units
-abbrev pub is_score : Ends → Bool
-is_score score = int_le (pos 0) score.lo && (int_le score.lo score.hi && int_le score.hi (pos (10 ^ 33)))
 
 -- the counts are of so many turns
 abbrev pub counts_are : ℕ → Option Tally → Bool
@@ -134,9 +87,10 @@ is_number n = nat_lt n (2 ^ 64)
 
 -- each kind of line
 abbrev pub is_line : Line → Bool
-is_line (lines.Head kind) = true
-is_line (lines.Game game) = are_payoffs game
+is_line (lines.Head x) = is_head x
+is_line (lines.Game game) = is_game game
 is_line (lines.Noise noise) = is_noise noise
+is_line (lines.Own x) = is_own x
 is_line (lines.Match m) = is_match m
 is_line (lines.Entry x) = is_entry x
 is_line (lines.Drill number) = is_number number

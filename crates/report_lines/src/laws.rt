@@ -1,8 +1,7 @@
 //! Laws about lines.
 ghost use Rattle.report_lines.specs.Reading.{LinesAreExact};
 
-use fixed_span::spans_are_exact;
-use texts::{cuts_are_exact, numbers_are_exact};
+use texts::{cuts_are_exact, numbers_are_exact, signed_points_are_exact};
 
 /// Exactly the texts of lines in range are read, and none of them has an LF.
 pub fn lines_are_exact()
@@ -10,5 +9,5 @@ pub fn lines_are_exact()
 {
     cuts_are_exact();
     numbers_are_exact();
-    spans_are_exact();
+    signed_points_are_exact();
 }

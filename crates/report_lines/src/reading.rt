@@ -1,15 +1,17 @@
 //! Reads lines.
 ghost use Rattle.std.specs.Prelude.{◌≡◌, ◌≤◌, true, IfOk, IfSome};
 ghost use Rattle.std.specs.Str.{bytes_eq};
-ghost use Rattle.report_lines.specs.Texts.{is_payoff, are_payoffs, is_noise, is_turns, is_score, counts_are, is_match, is_total, is_count, is_rank, is_entry, is_line, is_number, are_points, is_first};
-ghost use Rattle.report_lines.specs.Reading.{name_of, score_of, kind_of, payoff_of, game_of, noise_of, tally_of, counts_of, scores_of, match_of, count_of, rank_of, entry_of, points_of, first_of, drill_line, fixed, guess, line_of};
+ghost use Rattle.report_lines.specs.Fields.{is_amount, score_from};
+ghost use Rattle.report_lines.specs.HeadForms.{has_two, is_version};
+ghost use Rattle.report_lines.specs.Texts.{is_head, is_game, is_noise, is_own, is_turns, is_score, counts_are, is_match, is_total, is_count, is_rank, is_entry, is_line, is_number, are_points, is_first};
+ghost use Rattle.report_lines.specs.Reading.{name_of, score_of, kind_of, head_of, amount_of, payoff_of, game_of, noise_of, own_of, tally_of, counts_of, scores_of, match_of, count_of, rank_of, entry_of, points_of, first_of, drill_line, fixed, guess, line_of};
 
 use crate::writing::push_line;
-use crate::{Kind, Line, ShownEntry, ShownFirst, ShownMatch};
-use fixed_span::{Span, read_span};
-use history_model::{Game, Name, Noise, Tally};
+use crate::{Kind, Line, ShownEntry, ShownFirst, ShownGame, ShownHead, ShownMatch, ShownOwn};
+use fixed_span::Span;
+use history_model::{Name, Noise, Tally};
 use std::alloc::AllocError;
-use texts::{cut, small};
+use texts::{cut, sign_of, signed_at, small, with_sign};
 
 fn is(text: &[u8], word: &str) -> bool
     ensures { result ≡ bytes_eq text.now word.now }
@@ -23,10 +25,26 @@ fn name_of(text: &[u8]) -> Option<Name>
     Name::read(text)
 }
 
+// The score whose lower end is known, from what stands behind that.
+fn score_from(lo: i128, rest: &[u8]) -> Option<Span>
+    ensures { result ≡ score_from lo rest.now }
+{
+    match rest {
+        [] => Some(Span::point(lo)),
+        [_] => None,
+        [_, _, more @ ..] => {
+            let (hi, _) = signed_at(more, 12)?;
+            if lo < hi { Some(Span { lo, hi }) } else { None }
+        }
+    }
+}
+
+#[tactic(auto, unfolding(crate::specs::Reading::score_of))]
 fn score_of(text: &[u8]) -> Option<Span>
     ensures { result ≡ score_of text.now }
 {
-    read_span(text, 12)
+    let (lo, rest) = signed_at(text, 12)?;
+    score_from(lo, rest)
 }
 
 #[tactic(auto, unfolding(crate::specs::Reading::kind_of))]
@@ -44,28 +62,70 @@ fn kind_of(text: &[u8]) -> Option<Kind>
     }
 }
 
-#[tactic(auto, unfolding(crate::specs::Reading::payoff_of))]
-fn payoff_of(text: &[u8]) -> Option<u64>
-    ensures value { result ≡ payoff_of text.now }
-    ensures range { IfSome result (λ pay. pay ≤ 1000000) }
+fn has_two(kind: Kind) -> bool
+    ensures { result ≡ has_two kind }
 {
-    let pay = small(text)?;
-    if pay <= 1_000_000 { Some(pay) } else { None }
+    match kind {
+        Kind::Match | Kind::Tournament => true,
+        Kind::Drill => false,
+    }
 }
 
-#[tactic(auto, unfolding(crate::specs::Reading::game_of))]
-fn game_of(text: &[u8]) -> Option<Game>
+fn is_version(head: &ShownHead) -> bool
+    ensures { result ≡ is_version head.now }
+{
+    head.version == 1 || (head.version == 2 && has_two(head.kind))
+}
+
+#[tactic(auto, unfolding(crate::specs::Reading::head_of))]
+fn head_of(text: &[u8]) -> Option<ShownHead>
+    ensures { result ≡ head_of text.now }
+{
+    let (version, kind) = cut(text, b'|');
+    let version = count_of(version)?;
+    let kind = kind_of(kind)?;
+    let head = ShownHead { version, kind };
+    if is_version(&head) { Some(head) } else { None }
+}
+
+fn is_amount(n: u64) -> bool
+    ensures { result ≡ is_amount n }
+{
+    n <= 1_000_000
+}
+
+#[tactic(auto, unfolding(crate::specs::Reading::amount_of))]
+fn amount_of(text: &[u8]) -> Option<u64>
+    ensures value { result ≡ amount_of text.now }
+    ensures range { IfSome result (λ n. n ≤ 1000000) }
+{
+    let n = small(text)?;
+    if is_amount(n) { Some(n) } else { None }
+}
+
+#[tactic(auto, unfolding(crate::specs::Reading::payoff_of, crate::specs::Reading::amount_of))]
+fn payoff_of(text: &[u8]) -> Option<i64>
+    ensures { result ≡ payoff_of text.now }
+{
+    let (minus, amount) = sign_of(text);
+    let amount = amount_of(amount)?;
+    let pay = with_sign(minus, amount as u128)?;
+    Some(pay as i64)
+}
+
+#[tactic(auto, unfolding(crate::specs::Reading::game_of, crate::specs::Reading::payoff_of))]
+fn game_of(text: &[u8]) -> Option<ShownGame>
     ensures { result ≡ game_of text.now }
 {
     let (r, rest) = cut(text, b'|');
     let (s, rest) = cut(rest, b'|');
     let (t, rest) = cut(rest, b'|');
     let (p, _) = cut(rest, b'|');
-    let r = payoff_of(r)? as i64;
-    let s = payoff_of(s)? as i64;
-    let t = payoff_of(t)? as i64;
-    let p = payoff_of(p)? as i64;
-    Some(Game { r, s, t, p })
+    let r = payoff_of(r)?;
+    let s = payoff_of(s)?;
+    let t = payoff_of(t)?;
+    let p = payoff_of(p)?;
+    Some(ShownGame { r, s, t, p })
 }
 
 #[tactic(auto, unfolding(crate::specs::Reading::noise_of))]
@@ -84,6 +144,16 @@ fn noise_of(text: &[u8]) -> Option<Noise>
     } else {
         None
     }
+}
+
+#[tactic(auto, unfolding(crate::specs::Reading::own_of))]
+fn own_of(text: &[u8]) -> Option<ShownOwn>
+    ensures { result ≡ own_of text.now }
+{
+    let (name, noise) = cut(text, b'|');
+    let name = name_of(name)?;
+    let noise = noise_of(noise)?;
+    Some(ShownOwn { name, noise })
 }
 
 #[tactic(auto, unfolding(crate::specs::Reading::tally_of))]
@@ -247,9 +317,8 @@ fn fixed(word: &[u8], rest: &[u8]) -> Option<Line>
         return Some(Line::Entry(entry));
     }
     if is(word, "axlab") {
-        let (_, rest) = cut(rest, b'|');
-        let kind = kind_of(rest)?;
-        return Some(Line::Head(kind));
+        let head = head_of(rest)?;
+        return Some(Line::Head(head));
     }
     if is(word, "game") {
         let game = game_of(rest)?;
@@ -258,6 +327,10 @@ fn fixed(word: &[u8], rest: &[u8]) -> Option<Line>
     if is(word, "noise") {
         let noise = noise_of(rest)?;
         return Some(Line::Noise(noise));
+    }
+    if is(word, "own") {
+        let own = own_of(rest)?;
+        return Some(Line::Own(own));
     }
     if is(word, "end") {
         return Some(Line::End);
@@ -274,17 +347,32 @@ fn guess(text: &[u8]) -> Option<Line>
     fixed(word, rest)
 }
 
-fn are_payoffs(game: &Game) -> bool
-    ensures { result ≡ are_payoffs game.now }
+fn is_head(head: &ShownHead) -> bool
+    ensures { result ≡ is_head head.now }
 {
-    let (r, s, t, p) = game.unsigned();
-    r <= 1_000_000 && s <= 1_000_000 && (t <= 1_000_000 && p <= 1_000_000)
+    is_count(head.version) && is_version(head)
+}
+
+fn is_game(game: &ShownGame) -> bool
+    ensures { result ≡ is_game game.now }
+{
+    is_amount(game.r.unsigned_abs())
+        && (is_amount(game.s.unsigned_abs())
+            && (is_amount(game.t.unsigned_abs()) && is_amount(game.p.unsigned_abs())))
 }
 
 fn is_noise(noise: &Noise) -> bool
     ensures { result ≡ is_noise noise.now }
 {
     1 <= noise.e && noise.e <= 1000 && noise.n <= noise.e / 2
+}
+
+fn is_own(own: &ShownOwn) -> bool
+    ensures { result ≡ is_own own.now }
+{
+    // The name is a name by its type.
+    let _name = own.name.len();
+    is_noise(&own.noise)
 }
 
 fn is_turns(turns: u64) -> bool
@@ -297,7 +385,8 @@ fn is_score(score: Span) -> bool
     ensures { result ≡ is_score score }
 {
     let (lo, hi) = score.ends();
-    0 <= lo && (lo <= hi && hi <= 1_000_000_000_000_000_000_000_000_000_000_000)
+    -1_000_000_000_000_000_000_000_000_000_000_000 <= lo
+        && (lo <= hi && hi <= 1_000_000_000_000_000_000_000_000_000_000_000)
 }
 
 fn counts_are(turns: u64, tally: &Option<Tally>) -> bool
@@ -328,7 +417,8 @@ fn is_total(total: Span) -> bool
     ensures { result ≡ is_total total }
 {
     let (lo, hi) = total.ends();
-    0 <= lo && (lo <= hi && hi <= 10_000_000_000_000_000_000_000_000_000_000_000_000)
+    -10_000_000_000_000_000_000_000_000_000_000_000_000 <= lo
+        && (lo <= hi && hi <= 10_000_000_000_000_000_000_000_000_000_000_000_000)
 }
 
 // Every count is in range by its type.
@@ -366,7 +456,7 @@ fn is_number(_number: u64) -> bool
 fn are_points(units: i128) -> bool
     ensures { result ≡ are_points units }
 {
-    is_total(Span::point(units))
+    0 <= units && units <= 10_000_000_000_000_000_000_000_000_000_000_000_000
 }
 
 fn is_first(first: &ShownFirst) -> bool
@@ -377,13 +467,16 @@ fn is_first(first: &ShownFirst) -> bool
     are_points(first.total)
 }
 
+// Whether a line may stand in a report of some version. The rest is the report's to test: in version 1 no
+// payoff, score or total is below 0, and in version 2 no two payoffs are too far apart.
 fn is_line(line: &Line) -> bool
     ensures { result ≡ is_line line.now }
 {
     match line {
-        Line::Head(_) => true,
-        Line::Game(game) => are_payoffs(game),
+        Line::Head(head) => is_head(head),
+        Line::Game(game) => is_game(game),
         Line::Noise(noise) => is_noise(noise),
+        Line::Own(own) => is_own(own),
         Line::Match(found) => is_match(found),
         Line::Entry(entry) => is_entry(entry),
         Line::Drill(number) => is_number(*number),

@@ -1,8 +1,6 @@
 -- Fields that are joined by `|` are read from their text.
-use Rattle.std.proofs.Common.{◌≡◌, ℕ, Bool, true, false, not, ◌&&◌, List, [], ◌∷◌, ◌++◌, Option, Some, None, refl, ap, arith}
-use Rattle.texts.specs.Cuts.{before, behind, lacks}
+use Rattle.std.proofs.Common.{◌≡◌, Bool, ◌∷◌, Some, refl, ap}
 use Rattle.texts.specs.Forms.{Form, IsField, AreFields, ◌and◌, shaped, only}
-use Rattle.texts.specs.Numbers.{◌>>=◌}
 use Rattle.texts.proofs.CutLaws.{both_true, before_at, behind_at, lacks_append}
 
 pub last : {A : Type 0} (f : Form A) → IsField f → AreFields f

@@ -13,6 +13,10 @@ zero_padded width digits = replicate (width - length digits) 48 ++ digits
 abbrev pub point_text : ℕ → ℕ → List ℕ
 point_text decimals units = decimal (units / 10 ^ decimals) ++ (46 ∷ zero_padded decimals (decimal (units % 10 ^ decimals)))
 
+-- chances are shown with nine decimals, and scores with twelve
+abbrev pub IsDecimals : ℕ → Type 0
+IsDecimals decimals = (decimals ≡ 9) ⊎ (decimals ≡ 12)
+
 -- ---- reading
 
 -- a step that may give nothing, and then another

@@ -2,6 +2,7 @@
 ghost use Rattle.texts.specs.Cuts.{CutsAreExact};
 ghost use Rattle.texts.specs.Grammar.{LinesAreReadInTurn, ReadingIsExact, RefusalIsExact};
 ghost use Rattle.texts.specs.Numbers.{NumbersAreExact, PointsAreExact};
+ghost use Rattle.texts.specs.Signed.{SignedPointsAreExact};
 
 /// A text is cut at the first byte of a kind, and two texts without such a byte have none together.
 pub fn cuts_are_exact()
@@ -16,6 +17,12 @@ pub fn numbers_are_exact()
 /// A point is read from a text exactly where its text stands in front, which is digits and one `.`.
 pub fn points_are_exact()
     ensures { PointsAreExact }
+{}
+
+/// A point with a sign is read from a text exactly where its text stands in front, which is digits, one
+/// `.` and a `-`.
+pub fn signed_points_are_exact()
+    ensures { SignedPointsAreExact }
 {}
 
 /// Of a text whose grammar has the states `S` and the lines `I` a line is read, and then the pieces

@@ -2,4 +2,4 @@ use Rattle.report_lines.proofs.LineLaws.{exact}
 use Rattle.report_lines.proofs.laws.lines_are_exact.Goals as goal
 
 pub returns : goal.returns
-returns c = exact (record { cuts = c.cuts_are_exact.ensures; numbers = c.numbers_are_exact.ensures; spans = c.spans_are_exact.ensures })
+returns c = exact (record { cuts = c.cuts_are_exact.ensures; numbers = c.numbers_are_exact.ensures; points = c.signed_points_are_exact.ensures })
