@@ -1,7 +1,6 @@
 -- What reading answers is right.
 use Rattle.std.proofs.Common.{◌≡◌, ℕ, List, [], ◌∷◌, ◌++◌, Result, Ok, Err, refl, sym, ap, ◌∙◌}
 use Rattle.std.specs.Prelude.{IfOk}
-use Rattle.history_model.specs.Game.{Payoffs}
 use Rattle.history_model.specs.Noise.{FlipRate}
 use Rattle.texts.specs.Grammar.{text_of, pieces, read_on, IsExact, ReadingIsExact, RefusalIsExact}
 use Rattle.report_lines.specs.declared.line.Line.{Line}
@@ -10,13 +9,14 @@ use Rattle.report_lines.specs.Reading.{line_of, LinesAreExact}
 use Rattle.lab_report.specs.declared.reading.ReportError.{ReportError}
 use Rattle.lab_report.specs.declared.reading.ReportError.TheVariants as errors
 use Rattle.lab_report.specs.declared.report.Body.{Body}
+use Rattle.lab_report.specs.declared.report.Head.{Head}
 use Rattle.lab_report.specs.declared.report.Report.{Report}
 use Rattle.lab_report.specs.declared.state.State.{State}
 use Rattle.lab_report.specs.declared.state.State.TheVariants as states
 use Rattle.lab_report.specs.Grammar.{grammar}
-use Rattle.lab_report.specs.Read.{Gives, Refuses, IfBad, IsBadLine, IsFirstVersion, Reading, whole}
+use Rattle.lab_report.specs.Read.{Gives, Refuses, IfBad, IsBadLine, Reading, whole}
 use Rattle.lab_report.specs.Text.{lines_of, text_of_lines, report_text}
-use Rattle.lab_report.specs.Valid.{IsValid, OneReportAText}
+use Rattle.lab_report.specs.Valid.{IsValid, OneReportAText, head_of}
 use Rattle.lab_report.proofs.SoFar.{run_adds, runs}
 
 -- the laws of the crates below
@@ -35,12 +35,12 @@ same_text (i ∷ is) = ap (λ (t : List ℕ). line_text i ++ 10 ∷ t) (same_tex
 abbrev read : List ℕ → Result State ℕ
 read bytes = read_on grammar line_of states.Start 1 (pieces bytes)
 
-is_found : Below → (bytes : List ℕ) (r : Report) → IsFirstVersion r → read bytes ≡ Ok (whole r) → IsValid r × (bytes ≡ report_text r)
-is_found l bytes r first e =
+is_found : Below → (bytes : List ℕ) (r : Report) → read bytes ≡ Ok (whole r) → IsValid r × (bytes ≡ report_text r)
+is_found l bytes r e =
     let x = (l.reading grammar line_of (exact l.lines) states.Start (whole r) bytes).0 e in
     let a = run_adds x.lines states.Start (whole r) tt x.run_is in
     let same : x.lines ≡ lines_of r = sym a.1 in (
-      record { version = first.version; offset = first.offset; game = a.0.0; noise = a.0.1; noises = first.noises; fixed = a.0.3; are_names = a.0.2.are_names; shown = a.0.2.shown; body = a.0.2.holds },
+      record { head = a.0.0.told; game = a.0.0.game; noise = a.0.0.noise; own = a.0.1.count; are_noises = a.0.1.are_noises; fixed = a.0.3; are_names = a.0.2.are_names; shown = a.0.2.shown; body = a.0.2.holds },
       x.text_is ∙ ap (text_of grammar) same ∙ same_text (lines_of r),
     )
 
@@ -65,35 +65,30 @@ err_is j k e = cc
 apart : (s : State) (k : ℕ) → give s ≡ refuse k → ⊥
 apart s k e = absurd cc
 
-abbrev made : ℕ → ℕ → List FlipRate → Payoffs → FlipRate → List (List ℕ) → Body → Report
-made version offset noises game noise names body = record { version = version; offset = offset; game = game; noise = noise; noises = noises; names = names; body = body }
+abbrev made : Head → List FlipRate → List (List ℕ) → Body → Report
+made head noises names body =
+    record { version = head.version; offset = head.offset; game = head.game; noise = head.noise; noises = noises; names = names; body = body }
 
-same_made : (v w o p : ℕ) (l m : List FlipRate) (g h : Payoffs) (n q : FlipRate) (ns ms : List (List ℕ)) (b c : Body) → v ≡ w → o ≡ p → l ≡ m → states.Ended g n ns b ≡ states.Ended h q ms c
-    → made v o l g n ns b ≡ made w p m h q ms c
-same_made v w o p l m g h n q ns ms b c e f k same = cc
+same_made : (g h : Head) (l m : List FlipRate) (ns ms : List (List ℕ)) (b c : Body) → states.Ended g l ns b ≡ states.Ended h m ms c → made g l ns b ≡ made h m ms c
+same_made g h l m ns ms b c same = cc
 
-same_report : (a b : Report) → IsFirstVersion a → IsFirstVersion b → whole a ≡ whole b → a ≡ b
-same_report a b f g same =
-    same_made a.version b.version a.offset b.offset a.noises b.noises a.game b.game a.noise b.noise a.names b.names a.body b.body
-    (f.version ∙ sym g.version) (f.offset ∙ sym g.offset) (f.noises ∙ sym g.noises) same
+same_report : (a b : Report) → whole a ≡ whole b → a ≡ b
+same_report a b same = same_made (head_of a) (head_of b) a.noises b.noises a.names b.names a.body b.body same
 
-first_is : (r : Report) → IsValid r → IsFirstVersion r
-first_is r v = record { version = v.version; offset = v.offset; noises = v.noises }
+pub found : Below → (bytes : List ℕ) (r : Result Report ReportError) → Reading r (read bytes) → IfOk r IsValid
+found l bytes (Ok report) h = (is_found l bytes report h).0
+found l bytes (Err (errors.BadLine k)) h = tt
+found l bytes (Err errors.NoMemory) h = tt
 
-pub found : Below → (bytes : List ℕ) (r : Result Report ReportError) → IfOk r IsFirstVersion → Reading r (read bytes) → IfOk r IsValid
-found l bytes (Ok report) first h = (is_found l bytes report first h).0
-found l bytes (Err (errors.BadLine k)) first h = tt
-found l bytes (Err errors.NoMemory) first h = tt
+pub text : Below → (bytes : List ℕ) (r : Result Report ReportError) → Reading r (read bytes) → IfOk r (λ report. bytes ≡ report_text report)
+text l bytes (Ok report) h = (is_found l bytes report h).1
+text l bytes (Err (errors.BadLine k)) h = tt
+text l bytes (Err errors.NoMemory) h = tt
 
-pub text : Below → (bytes : List ℕ) (r : Result Report ReportError) → IfOk r IsFirstVersion → Reading r (read bytes) → IfOk r (λ report. bytes ≡ report_text report)
-text l bytes (Ok report) first h = (is_found l bytes report first h).1
-text l bytes (Err (errors.BadLine k)) first h = tt
-text l bytes (Err errors.NoMemory) first h = tt
-
-pub only : Below → (bytes : List ℕ) (r : Result Report ReportError) → IfOk r IsFirstVersion → Reading r (read bytes) → (report : Report) → IsValid report → bytes ≡ report_text report → Gives r report
-only l bytes (Ok answer) first h report v e = same_report answer report first (first_is report v) (ok_is (whole answer) (whole report) (sym h ∙ is_read l bytes report v e))
-only l bytes (Err (errors.BadLine k)) first h report v e = apart (whole report) k (sym (is_read l bytes report v e) ∙ h)
-only l bytes (Err errors.NoMemory) first h report v e = tt
+pub only : Below → (bytes : List ℕ) (r : Result Report ReportError) → Reading r (read bytes) → (report : Report) → IsValid report → bytes ≡ report_text report → Gives r report
+only l bytes (Ok answer) h report v e = same_report answer report (ok_is (whole answer) (whole report) (sym h ∙ is_read l bytes report v e))
+only l bytes (Err (errors.BadLine k)) h report v e = apart (whole report) k (sym (is_read l bytes report v e) ∙ h)
+only l bytes (Err errors.NoMemory) h report v e = tt
 
 pub bad : Below → (bytes : List ℕ) (r : Result Report ReportError) → Reading r (read bytes) → IfBad r (IsBadLine bytes)
 bad l bytes (Ok report) h = tt
@@ -110,4 +105,4 @@ bad_only l bytes (Err errors.NoMemory) h k b = tt
 
 pub one_text : Below → OneReportAText
 one_text l a b va vb same =
-    same_report a b (first_is a va) (first_is b vb) (ok_is (whole a) (whole b) (sym (is_read l (report_text a) a va refl) ∙ is_read l (report_text a) b vb same))
+    same_report a b (ok_is (whole a) (whole b) (sym (is_read l (report_text a) a va refl) ∙ is_read l (report_text a) b vb same))

@@ -1,20 +1,19 @@
 -- The lines of a drill, both ways, and the report that is made of one.
-use Rattle.std.proofs.Common.{◌≡◌, ℕ, ◌+◌, ◌^◌, ◌<◌, ◌≤◌, true, ltb, ◌&&◌, ℤ, pos, ◌≤ℤ◌, List, [], ◌∷◌, ◌++◌, length, Some, refl, sym, ap, subst, ◌∙◌, append_assoc, length-append, arith}
+use Rattle.std.proofs.Common.{◌≡◌, ℕ, ◌+◌, ◌^◌, ◌<◌, ◌≤◌, true, ltb, ℤ, pos, List, [], ◌∷◌, ◌++◌, length, Some, refl, sym, ap, subst, ◌∙◌, append_assoc, length-append, arith}
 use Rattle.std.specs.Prelude.{int_le}
 use Rattle.std.specs.List.{All}
 use Rattle.std.proofs.lemmas.Bool.Decides.{nat_tests}
-use Rattle.std.proofs.lemmas.Int.{ints}
 use Rattle.std.proofs.lemmas.List.{append-nil, map-append}
 use Rattle.std.proofs.lemmas.List.Elements.{All-nil, All-push}
-use Rattle.history_model.specs.Game.{Payoffs}
 use Rattle.history_model.specs.Name.{is_name, IsName}
-use Rattle.history_model.specs.Noise.{IsFlipRate, no_noise}
+use Rattle.history_model.specs.Noise.{IsFlipRate}
 use Rattle.texts.specs.Grammar.{run}
 use Rattle.report_lines.specs.declared.line.ShownFirst.{ShownFirst}
 use Rattle.report_lines.specs.declared.line.Line.{Line}
 use Rattle.report_lines.specs.declared.line.Line.TheVariants as lines
 use Rattle.report_lines.specs.Texts.{are_points, is_first, is_line, is_number}
 use Rattle.lab_report.specs.declared.report.Body.TheVariants as bodies
+use Rattle.lab_report.specs.declared.report.Head.{Head}
 use Rattle.lab_report.specs.declared.state.DrillSoFar.{DrillSoFar}
 use Rattle.lab_report.specs.declared.state.DrillSoFar.TheVariants as drills
 use Rattle.lab_report.specs.declared.state.State.{State}
@@ -23,12 +22,12 @@ use Rattle.lab_report.specs.DrillRules.{drill_allows, with_first}
 use Rattle.lab_report.specs.Grammar.{grammar}
 use Rattle.report_names.specs.Names.{name_at, with_name, with_names, place_in}
 use Rattle.lab_report.specs.Text.{shown_first, first_lines, drill_lines}
-use Rattle.lab_report.specs.Valid.{IsDrill, IsFirstOf, IsTotal, drill_game, first_names}
+use Rattle.lab_report.specs.Valid.{IsDrill, IsFirstOf, IsTotal, drill_head, first_names}
 use Rattle.report_names.proofs.Growth.{Grows, all_differ, all_head, all_tail, grows_one, names_then, place_kept}
 use Rattle.lab_report.proofs.MatchRuns.{place_back}
 use Rattle.report_names.proofs.PlaceLaws.{Differ, none_differ, place_below, stands_there, with_all}
 use Rattle.lab_report.proofs.Ranges.{both_back, both_true, int_le_back, int_le_is}
-use Rattle.lab_report.proofs.States.{IsSound, IsSoundBody, IsSoundFirst, Adds, no_case, one_line}
+use Rattle.lab_report.proofs.States.{IsSound, IsSoundBody, IsSoundHead, IsSoundFirst, Adds, no_case, one_line}
 
 -- ---- totals and machines, from their tests and back
 
@@ -38,17 +37,13 @@ ltb_is a b h = grind (arith, nat_tests)
 ltb_back : (a b : ℕ) → a < b → ltb a b ≡ true
 ltb_back a b h = grind (arith, nat_tests)
 
-int_le_same : (a : ℤ) → a ≤ℤ a
-int_le_same a = omega (arith, ints)
-
 total_is : (units : ℤ) → are_points units ≡ true → IsTotal units
 total_is units h =
-    let a = both_true (int_le (pos 0) units) (int_le units units && int_le units (pos (10 ^ 37))) h in
-    let b = both_true (int_le units units) (int_le units (pos (10 ^ 37))) a.1 in
-    record { low = int_le_is (pos 0) units a.0; high = int_le_is units (pos (10 ^ 37)) b.1 }
+    let a = both_true (int_le (pos 0) units) (int_le units (pos (10 ^ 37))) h in
+    record { low = int_le_is (pos 0) units a.0; high = int_le_is units (pos (10 ^ 37)) a.1 }
 
 pub total_back : (units : ℤ) → IsTotal units → are_points units ≡ true
-total_back units h = rw (int_le_back (pos 0) units h.low, int_le_back units units (int_le_same units), int_le_back units (pos (10 ^ 37)) h.high) refl
+total_back units h = rw (int_le_back (pos 0) units h.low, int_le_back units (pos (10 ^ 37)) h.high) refl
 
 pub number_back : (number : ℕ) → number < 2 ^ 64 → is_number number ≡ true
 number_back number h = ltb_back number (2 ^ 64) h
@@ -110,15 +105,19 @@ lines_with_first names first x s =
     ∙ ap (λ (is : List Line). is ++ lines.First (shown_first more line) ∷ []) (firsts_stay names more (grows_one names x.name) first s.machines)
     ∙ ap (λ (name : List ℕ). first_lines names first ++ lines.First (record { name = name; total = x.total }) ∷ []) (own_name names x.name)
 
-whole_drill : (names : List (List ℕ)) (number : ℕ) (first : List (ℕ × ℤ)) (sum : ℤ) → number < 2 ^ 64 → IsSoundFirst names first → IsTotal sum → IsSoundBody drill_game names (bodies.Drill number first sum)
+whole_drill : (names : List (List ℕ)) (number : ℕ) (first : List (ℕ × ℤ)) (sum : ℤ) → number < 2 ^ 64 → IsSoundFirst names first → IsTotal sum → IsSoundBody drill_head names (bodies.Drill number first sum)
 whole_drill names number first sum fits s total =
     record { are_names = s.are_names; shown = s.shown; holds = record { number_fits = fits; few = s.few; machines = s.machines; sum_is = total } }
 
 no_firsts : IsSoundFirst [] []
 no_firsts = record { are_names = All-nil IsName; shown = refl; few = omega arith; machines = All-nil (IsFirstOf 0) }
 
-still : IsFlipRate no_noise
-still = record { some = omega arith; few = omega arith; half = omega arith }
+still : IsSoundHead drill_head
+still = record {
+  told = record { some = omega arith; known = omega arith; first = λ e. refl; raised = record { few = omega arith; least = λ some. absurd (omega (arith, some)) } };
+  game = record { reward = omega arith; sucker = omega arith; temptation = omega arith; punishment = omega arith };
+  noise = record { some = omega arith; few = omega arith; half = omega arith };
+}
 
 pub drill_adds : (names : List (List ℕ)) (drill : DrillSoFar) (i : Line) → IsSound (states.InDrill names drill) → is_line i ≡ true → drill_allows drill i ≡ true → Adds (states.InDrill names drill) i
 drill_adds names drills.Begun (lines.Drill number) s h e = rw s ((ltb_is number (2 ^ 64) h, no_firsts), refl)
@@ -126,7 +125,7 @@ drill_adds names (drills.Numbered number first) (lines.First x) s h e =
     ((s.0, sound_with_first names first x s.1 h e), rw (lines_with_first names first x s.1) refl)
 drill_adds names (drills.Numbered number first) (lines.Total sum) s h e = ((s.0, s.1, total_is sum h), refl)
 drill_adds names (drills.Summed number first sum) lines.End s h e =
-    ((record { reward = omega arith; sucker = omega arith; temptation = omega arith; punishment = omega arith }, still, whole_drill names number first sum s.0 s.1 s.2, (refl, refl)), refl)
+    ((still, record { are_noises = All-nil IsFlipRate; count = refl }, whole_drill names number first sum s.0 s.1 s.2, refl), refl)
 drill_adds names drills.Begun _ s h e = no_case e
 drill_adds names (drills.Numbered number first) _ s h e = no_case e
 drill_adds names (drills.Summed number first sum) _ s h e = no_case e
@@ -152,9 +151,9 @@ firsts_run names are_names differ number (l ∷ ls) ns done rest e all few =
     ∙ firsts_run names are_names differ number ls next (done ++ l ∷ []) rest e (all_tail (IsFirstOf (length names)) l ls all) room
     ∙ ap (λ (d : List (ℕ × ℤ)). run grammar (at (with_names next (first_names names ls)) number d) rest) (append_assoc done (l ∷ []) ls)
 
-pub drill_runs : (game : Payoffs) (names : List (List ℕ)) (number : ℕ) (first : List (ℕ × ℤ)) (sum : ℤ) → IsSoundBody game names (bodies.Drill number first sum)
-    → run grammar (states.InDrill [] drills.Begun) (drill_lines names number first sum ++ lines.End ∷ []) ≡ Some (states.Ended drill_game no_noise names (bodies.Drill number first sum))
-drill_runs game names number first sum v =
+pub drill_runs : (head : Head) (names : List (List ℕ)) (number : ℕ) (first : List (ℕ × ℤ)) (sum : ℤ) → IsSoundBody head names (bodies.Drill number first sum)
+    → run grammar (states.InDrill [] drills.Begun) (drill_lines names number first sum ++ lines.End ∷ []) ≡ Some (states.Ended drill_head [] names (bodies.Drill number first sum))
+drill_runs head names number first sum v =
     let d : IsDrill (length names) number first sum = v.holds in
     let differ : Differ names = subst Differ (sym v.shown) (all_differ [] (first_names names first) none_differ) in
     let end : List Line = lines.End ∷ [] in

@@ -1,8 +1,10 @@
 pub mod Answered
 pub mod DrillLaws
+pub mod FollowLaws
 pub mod Loops
 pub mod MatchRuns
 pub mod Numbered
+pub mod OwnLaws
 pub mod Piecing
 pub mod Ranges
 pub mod RoomLaws

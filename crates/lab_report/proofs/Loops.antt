@@ -1,11 +1,10 @@
 -- One line after the other, as the loop reads them.
-use Rattle.std.proofs.Common.{◌≡◌, ℕ, ◌+◌, ◌∷◌, [], Bool, true, false, cond, eqb, ◌&&◌, List, length, Option, Some, None, Result, Ok, Err, refl, ap, ◌∙◌}
-use Rattle.texts.specs.Grammar.{LinesAreReadInTurn, or_bad_line, pieces, read_on}
-use Rattle.texts.specs.Numbers.{◌>>=◌}
+use Rattle.std.proofs.Common.{◌≡◌, ℕ, ◌+◌, ◌∷◌, [], Bool, true, false, cond, eqb, ◌&&◌, List, length, Option, Result, Ok, Err, refl, sym, ap, ◌∙◌}
+use Rattle.texts.specs.Grammar.{LinesAreReadInTurn, or_bad_line, pieces, read_on, step}
 use Rattle.report_lines.specs.declared.line.Line.{Line}
 use Rattle.report_lines.specs.Reading.{line_of}
 use Rattle.lab_report.specs.declared.state.State.{State}
-use Rattle.lab_report.specs.Grammar.{after, allows, grammar, is_ended}
+use Rattle.lab_report.specs.Grammar.{grammar, is_ended}
 
 abbrev pub read_from : State → ℕ → List ℕ → Result State ℕ
 read_from s k rest = read_on grammar line_of s k (pieces rest)
@@ -13,31 +12,12 @@ read_from s k rest = read_on grammar line_of s k (pieces rest)
 abbrev pub InTurn : Type 0
 InTurn = LinesAreReadInTurn State Line
 
--- what a line that was read leaves, where it is allowed
-abbrev led : State → Option Line → Option State
-led s read = read >>= λ i. cond (allows s i) (Some (after s i)) None
+abbrev go_on : ℕ → List ℕ → Option State → Result State ℕ
+go_on k more led = or_bad_line k led (λ t. read_on grammar line_of t (k + 1) (pieces more))
 
-abbrev go_on : State → ℕ → List ℕ → Option Line → Result State ℕ
-go_on s k more read = or_bad_line k (led s read) (λ t. read_on grammar line_of t (k + 1) (pieces more))
-
-turned : InTurn → (s : State) (k : ℕ) (rest text more : List ℕ) (read : Option Line) → pieces rest ≡ text ∷ pieces more → line_of text ≡ read → read_from s k rest ≡ go_on s k more read
-turned law s k rest text more read cut is = ap (read_on grammar line_of s k) cut ∙ law grammar line_of s k text more ∙ ap (go_on s k more) is
-
--- the text is that of no line
-pub no_line : InTurn → (s : State) (k : ℕ) (rest text more : List ℕ) → pieces rest ≡ text ∷ pieces more → line_of text ≡ None → read_from s k rest ≡ Err k
-no_line law s k rest text more cut is = turned law s k rest text more None cut is
-
--- the line may not stand there
-pub not_allowed : InTurn → (s : State) (k : ℕ) (rest text more : List ℕ) (i : Line) → pieces rest ≡ text ∷ pieces more → line_of text ≡ Some i → allows s i ≡ false → read_from s k rest ≡ Err k
-not_allowed law s k rest text more i cut is not =
-    turned law s k rest text more (Some i) cut is
-    ∙ ap (λ (t : Bool). or_bad_line k (cond t (Some (after s i)) None) (λ u. read_on grammar line_of u (k + 1) (pieces more))) not
-
--- the line is read, and then what stands behind it
-pub next_line : InTurn → (s : State) (k : ℕ) (rest text more : List ℕ) (i : Line) → pieces rest ≡ text ∷ pieces more → line_of text ≡ Some i → allows s i ≡ true → read_from s k rest ≡ read_from (after s i) (k + 1) more
-next_line law s k rest text more i cut is allowed =
-    turned law s k rest text more (Some i) cut is
-    ∙ ap (λ (t : Bool). or_bad_line k (cond t (Some (after s i)) None) (λ u. read_on grammar line_of u (k + 1) (pieces more))) allowed
+-- the line is read, and then what stands behind it; or it is the first bad one
+pub turned : InTurn → (s : State) (k : ℕ) (rest text more : List ℕ) (led : Option State) → pieces rest ≡ text ∷ pieces more → led ≡ step grammar line_of s text → read_from s k rest ≡ go_on k more led
+turned law s k rest text more led cut is = ap (read_on grammar line_of s k) cut ∙ law grammar line_of s k text more ∙ ap (go_on k more) (sym is)
 
 abbrev at_end : State → ℕ → Bool → Bool → Result State ℕ
 at_end s k empty ended = cond (empty && ended) (Ok s) (Err k)

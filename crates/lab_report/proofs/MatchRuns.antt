@@ -1,7 +1,6 @@
 -- The line of one match, both ways.
 use Rattle.std.proofs.Common.{◌≡◌, ℕ, ◌<◌, true, List, [], ◌∷◌, ◌++◌, length, Option, Some, None, refl, sym, ap, subst, ◌∙◌, arith}
 use Rattle.std.proofs.lemmas.List.Elements.{All-nil}
-use Rattle.history_model.specs.Game.{Payoffs}
 use Rattle.history_model.specs.Name.{IsName}
 use Rattle.history_model.specs.Noise.{FlipRate}
 use Rattle.texts.specs.Grammar.{run}
@@ -10,19 +9,23 @@ use Rattle.report_lines.specs.declared.line.ShownMatch.{ShownMatch}
 use Rattle.report_lines.specs.declared.line.Line.{Line}
 use Rattle.report_lines.specs.declared.line.Line.TheVariants as lines
 use Rattle.report_lines.specs.Texts.{is_match, is_line}
+use Rattle.report_names.specs.declared.own.OwnNoises.{OwnNoises}
 use Rattle.lab_report.specs.declared.report.Body.TheVariants as bodies
+use Rattle.lab_report.specs.declared.report.Head.{Head}
 use Rattle.lab_report.specs.declared.state.BodySoFar.TheVariants as parts
 use Rattle.lab_report.specs.declared.state.State.{State}
 use Rattle.lab_report.specs.declared.state.State.TheVariants as states
-use Rattle.lab_report.specs.Grammar.{grammar}
-use Rattle.lab_report.specs.MatchRules.{pays, placed_match, names_with_match, match_allows}
+use Rattle.lab_report.specs.Grammar.{follows, grammar}
+use Rattle.lab_report.specs.MatchRules.{is_scored, placed_match, names_with_match, match_allows}
 use Rattle.report_names.specs.Names.{name_at, with_name, with_names, place_in}
 use Rattle.lab_report.specs.Text.{shown_match, body_lines}
-use Rattle.lab_report.specs.Valid.{IsShowable, IsMatchOf}
+use Rattle.lab_report.specs.Valid.{IsMatchOf}
 use Rattle.report_names.proofs.Growth.{all_differ, grows_all}
 use Rattle.report_names.proofs.PlaceLaws.{place_below, longer, name_stays, stands_there, Differ, none_differ, with_all}
-use Rattle.lab_report.proofs.Ranges.{MatchParts, match_parts, counted, match_back, pays_back}
-use Rattle.lab_report.proofs.States.{IsSound, IsSoundBody, Adds, no_case}
+use Rattle.lab_report.proofs.FollowLaws.{OwnsAll, end_follows, match_follows}
+use Rattle.lab_report.proofs.OwnLaws.{all_done, closed, grown, match_comes}
+use Rattle.lab_report.proofs.Ranges.{both_back, match_parts, match_back, read_is, scored_back}
+use Rattle.lab_report.proofs.States.{IsSound, IsSoundBody, Adds, PartAdds, no_case, one_line}
 
 -- ---- a match line, from its text
 
@@ -41,34 +44,35 @@ right_name ns m = stands_there (names_with_match ns m) m.right (place_below (wit
 pub now_shown : (ns : List (List ℕ)) (m : ShownMatch) → shown_match (names_with_match ns m) (placed_match ns m) ≡ m
 now_shown ns m = rw (left_name ns m, right_name ns m) refl
 
-placed_showable : (game : Payoffs) (ns : List (List ℕ)) (m : ShownMatch) → MatchParts m → pays game m.left_score m.right_score m.tally ≡ true → IsShowable game (placed_match ns m)
-placed_showable game ns m p paid = record {
-  some_turns = p.some_turns;
-  few_turns = p.few_turns;
-  left = p.left_score;
-  right = p.right_score;
-  counts = counted game (placed_match ns m) m.tally p.counts paid;
+-- a match that was placed is one of the names' entries
+pub placed_is : (head : Head) (ns : List (List ℕ)) (m : ShownMatch) → is_match m ≡ true → is_scored head m ≡ true → IsMatchOf (length (names_with_match ns m)) head (placed_match ns m)
+placed_is head ns m h scored = record {
+  left = left_place ns m;
+  right = place_below (with_name ns m.left) m.right;
+  showable = read_is head m (place_in (with_name ns m.left) m.left) (place_in (names_with_match ns m) m.right) (match_parts m h) scored;
 }
 
--- a match that was placed is one of the names' entries
-pub placed_is : (game : Payoffs) (ns : List (List ℕ)) (m : ShownMatch) → is_match m ≡ true → pays game m.left_score m.right_score m.tally ≡ true → IsMatchOf (length (names_with_match ns m)) game (placed_match ns m)
-placed_is game ns m h paid = record { left = left_place ns m; right = place_below (with_name ns m.left) m.right; showable = placed_showable game ns m (match_parts m h) paid }
-
-sound_match : (game : Payoffs) (m : ShownMatch) → is_match m ≡ true → pays game m.left_score m.right_score m.tally ≡ true → IsSoundBody game (names_with_match [] m) (bodies.Match (placed_match [] m))
-sound_match game m h paid =
+sound_match : (head : Head) (m : ShownMatch) → is_match m ≡ true → is_scored head m ≡ true → IsSoundBody head (names_with_match [] m) (bodies.Match (placed_match [] m))
+sound_match head m h scored =
     let p = match_parts m h in
     record {
       are_names = with_all IsName (with_name [] m.left) m.right (with_all IsName [] m.left (All-nil IsName) p.left) p.right;
       shown = rw (left_name [] m, right_name [] m) refl;
-      holds = placed_is game [] m h paid;
+      holds = placed_is head [] m h scored;
     }
 
-pub match_adds : (game : Payoffs) (noise : FlipRate) (names : List (List ℕ)) (line : Option MatchLine) (i : Line) → IsSound (states.InBody game noise names (parts.Match line)) → is_line i ≡ true
-    → match_allows game line i ≡ true → Adds (states.InBody game noise names (parts.Match line)) i
-match_adds game noise names None (lines.Match m) s h e = rw s.2 ((s.0, s.1, sound_match game m h e), rw (now_shown [] m) refl)
-match_adds game noise names (Some line) lines.End s h e = ((s.0, s.1, s.2, tt), refl)
-match_adds game noise names None _ s h e = no_case e
-match_adds game noise names (Some line) _ s h e = no_case e
+first_match : (head : Head) (names : List (List ℕ)) (m : ShownMatch) → names ≡ [] → is_match m ≡ true → is_scored head m ≡ true
+    → PartAdds head names (parts.Match None) (lines.Match m) (names_with_match names m) (parts.Match (Some (placed_match names m)))
+first_match head names m none h scored = rw none (sound_match head m h scored, rw (now_shown [] m) refl)
+
+pub match_adds : (head : Head) (own : OwnNoises) (names : List (List ℕ)) (line : Option MatchLine) (i : Line) → IsSound (states.InBody head own names (parts.Match line)) → is_line i ≡ true
+    → match_allows head line i ≡ true → follows head.version own.names names i ≡ true → Adds (states.InBody head own names (parts.Match line)) i
+match_adds head own names None (lines.Match m) s h e f =
+    grown head own names (names_with_match names m) (parts.Match None) (parts.Match (Some (placed_match names m))) (lines.Match m) refl s (match_comes head.version own names m s.1 f) (first_match head names m s.2 h e)
+match_adds head own names (Some line) lines.End s h e f =
+    closed head own names (parts.Match (Some line)) (bodies.Match line) refl tt s (all_done head.version own names s.1 f) (s.2, refl)
+match_adds head own names None _ s h e f = no_case e
+match_adds head own names (Some line) _ s h e f = no_case e
 
 -- ---- the line of a valid match is allowed
 
@@ -90,15 +94,19 @@ placed_back ns more names line e differ below_left below_right =
     let right : place_in (names_with_match ns m) m.right ≡ line.right = place_back (with_name ns m.left) more names m.right line.right e differ below_right refl in
     ap (λ (k : ℕ). placed_at line k (place_in (names_with_match ns m) m.right)) left ∙ ap (λ (k : ℕ). placed_at line line.left k) right
 
-abbrev end_at : Payoffs → FlipRate → List (List ℕ) → MatchLine → Option State
-end_at game noise names line = Some (states.Ended game noise names (bodies.Match line))
+abbrev end_at : Head → List FlipRate → List (List ℕ) → MatchLine → Option State
+end_at head noises names line = Some (states.Ended head noises names (bodies.Match line))
 
-pub match_runs : (game : Payoffs) (noise : FlipRate) (names : List (List ℕ)) (line : MatchLine) → IsSoundBody game names (bodies.Match line)
-    → run grammar (states.InBody game noise [] (parts.Match None)) (body_lines names (bodies.Match line) ++ lines.End ∷ []) ≡ end_at game noise names line
-match_runs game noise names line v =
+pub match_runs : (head : Head) (own : OwnNoises) (names : List (List ℕ)) (line : MatchLine) → IsSoundBody head names (bodies.Match line) → OwnsAll head.version own names
+    → run grammar (states.InBody head own [] (parts.Match None)) (body_lines names (bodies.Match line) ++ lines.End ∷ []) ≡ end_at head own.noises names line
+match_runs head own names line v o =
     let m = shown_match names line in
     let differ : Differ names = subst Differ (sym v.shown) (all_differ [] (m.left ∷ m.right ∷ []) none_differ) in
     let placed : placed_match [] m ≡ line = placed_back [] [] names line v.shown differ v.holds.left v.holds.right in
-    let is : is_match m ≡ true = match_back game names line v.are_names v.holds in
-    let paid : pays game m.left_score m.right_score m.tally ≡ true = pays_back game line v.holds.showable.counts in
-    rw (is, paid) (ap (λ (ns : List (List ℕ)). end_at game noise ns (placed_match [] m)) (sym v.shown) ∙ ap (λ (l : MatchLine). end_at game noise names l) placed)
+    let is : is_match m ≡ true = match_back head names line v.are_names v.holds in
+    let scored : is_scored head m ≡ true = scored_back head names line v.holds.showable in
+    let comes : follows head.version own.names [] (lines.Match m) ≡ true = match_follows head.version own names [] [] m o v.shown in
+    let ends : follows head.version own.names (names_with_match [] m) lines.End ≡ true = end_follows head.version own names (names_with_match [] m) o v.shown in
+    one_line (states.InBody head own [] (parts.Match None)) (lines.Match m) (lines.End ∷ []) is (both_back (is_scored head m) (follows head.version own.names [] (lines.Match m)) scored comes)
+    ∙ one_line (states.InBody head own (names_with_match [] m) (parts.Match (Some (placed_match [] m)))) lines.End [] refl ends
+    ∙ ap (λ (ns : List (List ℕ)). end_at head own.noises ns (placed_match [] m)) (sym v.shown) ∙ ap (λ (l : MatchLine). end_at head own.noises names l) placed

@@ -1,5 +1,5 @@
 -- The line at each place of a report, and what stands behind it.
-use Rattle.std.proofs.Common.{◌≡◌, ℕ, ℤ, zero, suc, ◌+◌, ◌-◌, ◌<◌, ◌≤◌, List, [], ◌∷◌, ◌++◌, length, drop, get_or, map, option_map, slice_get, true, IfSome, Option, Some, None, refl, sym, ap, subst, ◌∙◌, append_assoc, add-one, drop-cons, arith}
+use Rattle.std.proofs.Common.{◌≡◌, ◌⊎◌, inl, inr, ℕ, ℤ, zero, suc, ◌+◌, ◌-◌, ◌*◌, ◌^◌, ◌<◌, ◌≤◌, Bool, true, false, eqb, if◌then◌else◌, List, [], ◌∷◌, ◌++◌, length, drop, get_or, map, option_map, slice_get, IfSome, Option, Some, None, refl, sym, ap, subst, ◌∙◌, append_assoc, add-one, drop-cons, arith}
 use Rattle.std.specs.List.{AllZip}
 use Rattle.std.proofs.lemmas.List.{append-nil, length-append, length-map}
 use Rattle.std.proofs.lemmas.Slice.Zip.{AllZip-long}
@@ -15,9 +15,12 @@ use Rattle.report_lines.specs.declared.line.Kind.{Kind}
 use Rattle.report_lines.specs.declared.line.Kind.TheVariants as kinds
 use Rattle.lab_report.specs.declared.report.Body.{Body}
 use Rattle.lab_report.specs.declared.report.Body.TheVariants as bodies
+use Rattle.lab_report.specs.declared.report.Head.{Head}
 use Rattle.lab_report.specs.declared.report.Report.{Report}
-use Rattle.lab_report.specs.Text.{kind_of, body_lines, entry_lines, first_lines, lab_lines, lines_of, match_lines, shown_entry, shown_first, shown_match, text_of_lines}
-use Rattle.lab_report.specs.Valid.{IsBody, IsCountedIn, IsTable, IsValid}
+use Rattle.report_names.specs.Names.{name_at, with_name, with_names}
+use Rattle.report_names.proofs.Growth.{one_longer}
+use Rattle.lab_report.specs.Text.{kind_of, body_lines, entry_lines, first_lines, lab_lines, lines_of, match_lines, own_lines, shown_entry, shown_first, shown_match, shown_own, side_by_side, text_of_lines}
+use Rattle.lab_report.specs.Valid.{IsBody, IsCountedIn, IsTable, IsValid, head_of, match_names, shown_names}
 use Rattle.lab_report.proofs.SoFar.{lines_print}
 
 pub in_front : {X : Type 0} (xs ys : List X) (k : ℕ) → k < length xs → slice_get (xs ++ ys) k ≡ slice_get xs k
@@ -36,34 +39,32 @@ made_there f xs k x inside at = slice_get-map f xs k ∙ ap (option_map f) (slic
 
 -- ---- entries
 
-entry_get : (names : List (List ℕ)) (who : List ℕ) (es : List EntryLine) (k p : ℕ) (e : EntryLine) → slice_get who k ≡ Some p → slice_get es k ≡ Some e
-    → slice_get (entry_lines names who es) k ≡ Some (lines.Entry (shown_entry names p e))
-entry_get names [] es k p e place entry = absurd (none-some p place)
-entry_get names (q ∷ who) [] k p e place entry = absurd (none-some e entry)
-entry_get names (q ∷ who) (f ∷ es) zero p e place entry = cc
-entry_get names (q ∷ who) (f ∷ es) (suc k) p e place entry = entry_get names who es k p e place entry
+beside_get : {A B : Type 0} (f : A → B → Line) (xs : List A) (ys : List B) (k : ℕ) (x : A) (y : B) → slice_get xs k ≡ Some x → slice_get ys k ≡ Some y → slice_get (side_by_side f xs ys) k ≡ Some (f x y)
+beside_get f [] ys k x y here there = absurd (none-some x here)
+beside_get f (a ∷ us) [] k x y here there = absurd (none-some y there)
+beside_get f (a ∷ us) (b ∷ vs) zero x y here there = cc
+beside_get f (a ∷ us) (b ∷ vs) (suc k) x y here there = beside_get f us vs k x y here there
 
-pub entry_there : (names : List (List ℕ)) (who : List ℕ) (es : List EntryLine) (k p : ℕ) (e : EntryLine) → k < length who → p ≡ get_or who k p → k < length es → e ≡ get_or es k e
-    → slice_get (entry_lines names who es) k ≡ Some (lines.Entry (shown_entry names p e))
-entry_there names who es k p e in_who place in_es entry = entry_get names who es k p e (slice_get_read who (length who) k p refl in_who place) (slice_get_read es (length es) k e refl in_es entry)
+pub beside_there : {A B : Type 0} (f : A → B → Line) (xs : List A) (ys : List B) (k : ℕ) (x : A) (y : B) → k < length xs → x ≡ get_or xs k x → k < length ys → y ≡ get_or ys k y → slice_get (side_by_side f xs ys) k ≡ Some (f x y)
+beside_there f xs ys k x y in_xs here in_ys there = beside_get f xs ys k x y (slice_get_read xs (length xs) k x refl in_xs here) (slice_get_read ys (length ys) k y refl in_ys there)
 
-pub no_place : (names : List (List ℕ)) (who : List ℕ) (es : List EntryLine) (k : ℕ) → length who ≤ k → slice_get (entry_lines names who es) k ≡ None
-no_place names [] es k past = refl
-no_place names (q ∷ who) [] k past = refl
-no_place names (q ∷ who) (f ∷ es) zero past = absurd (omega (arith, past))
-no_place names (q ∷ who) (f ∷ es) (suc k) past = no_place names who es k (omega (arith, past))
+pub no_left : {A B : Type 0} (f : A → B → Line) (xs : List A) (ys : List B) (k : ℕ) → length xs ≤ k → slice_get (side_by_side f xs ys) k ≡ None
+no_left f [] ys k past = refl
+no_left f (a ∷ us) [] k past = refl
+no_left f (a ∷ us) (b ∷ vs) zero past = absurd (omega (arith, past))
+no_left f (a ∷ us) (b ∷ vs) (suc k) past = no_left f us vs k (omega (arith, past))
 
-pub no_entry : (names : List (List ℕ)) (who : List ℕ) (es : List EntryLine) (k : ℕ) → length es ≤ k → slice_get (entry_lines names who es) k ≡ None
-no_entry names [] es k past = refl
-no_entry names (q ∷ who) [] k past = refl
-no_entry names (q ∷ who) (f ∷ es) zero past = absurd (omega (arith, past))
-no_entry names (q ∷ who) (f ∷ es) (suc k) past = no_entry names who es k (omega (arith, past))
+pub no_right : {A B : Type 0} (f : A → B → Line) (xs : List A) (ys : List B) (k : ℕ) → length ys ≤ k → slice_get (side_by_side f xs ys) k ≡ None
+no_right f [] ys k past = refl
+no_right f (a ∷ us) [] k past = refl
+no_right f (a ∷ us) (b ∷ vs) zero past = absurd (omega (arith, past))
+no_right f (a ∷ us) (b ∷ vs) (suc k) past = no_right f us vs k (omega (arith, past))
 
-pub entries_count : (names : List (List ℕ)) (who : List ℕ) (es : List EntryLine) → length who ≡ length es → length (entry_lines names who es) ≡ length es
-entries_count names [] [] same = refl
-entries_count names [] (f ∷ es) same = absurd (omega (arith, same))
-entries_count names (q ∷ who) [] same = refl
-entries_count names (q ∷ who) (f ∷ es) same = ap suc (entries_count names who es (omega (arith, same)))
+pub beside_count : {A B : Type 0} (f : A → B → Line) (xs : List A) (ys : List B) → length ys ≤ length xs → length (side_by_side f xs ys) ≡ length ys
+beside_count f [] [] same = refl
+beside_count f [] (b ∷ vs) same = absurd (omega (arith, same))
+beside_count f (a ∷ us) [] same = refl
+beside_count f (a ∷ us) (b ∷ vs) same = ap suc (beside_count f us vs (omega (arith, same)))
 
 as_long : (ms : List MatchLine) (who : List ℕ) (es : List EntryLine) → AllZip (IsCountedIn ms) who es → length who ≡ length es
 as_long ms who es z = sym (AllZip-long (IsCountedIn ms) who es z)
@@ -74,43 +75,82 @@ table_count : (names : List (List ℕ)) (ms : List MatchLine) (who : List ℕ) (
 table_count names ms who es long =
     let matches = length-map ms (λ (line : MatchLine). lines.Match (shown_match names line)) in
     let both = length-append (match_lines names ms) (entry_lines names who es) in
-    let entries = entries_count names who es long in
+    let entries = beside_count (λ (place : ℕ) (entry : EntryLine). lines.Entry (shown_entry names place entry)) who es (omega (arith, long)) in
     omega (arith, matches, both, entries)
 
 -- a tournament's lines are its matches and entries
-pub table_counted : (names : List (List ℕ)) (game : Payoffs) (body : Body) (ms : List MatchLine) (who : List ℕ) (es : List EntryLine) → body ≡ bodies.Tournament ms who es → IsBody (length names) game body
+pub table_counted : (names : List (List ℕ)) (head : Head) (body : Body) (ms : List MatchLine) (who : List ℕ) (es : List EntryLine) → body ≡ bodies.Tournament ms who es → IsBody (length names) head body
     → length ms + length es ≡ length (body_lines names body)
-table_counted names game body ms who es is v =
-    let t : IsTable (length names) game ms who es = subst (IsBody (length names) game) is v in
+table_counted names head body ms who es is v =
+    let t : IsTable (length names) head ms who es = subst (IsBody (length names) head) is v in
     sym (table_count names ms who es (as_long ms who es t.counted)) ∙ ap (λ (b : Body). length (body_lines names b)) (sym is)
 
-body_few : (names : List (List ℕ)) (game : Payoffs) (body : Body) → IsBody (length names) game body → length (body_lines names body) ≤ 2144
-body_few names game (bodies.Match line) v = omega arith
-body_few names game (bodies.Tournament ms who es) v =
+body_few : (names : List (List ℕ)) (head : Head) (body : Body) → IsBody (length names) head body → length (body_lines names body) ≤ 2144
+body_few names head (bodies.Match line) v = omega arith
+body_few names head (bodies.Tournament ms who es) v =
     let count = table_count names ms who es (as_long ms who es v.counted) in
     let few_matches = v.few_matches in
     let few_entries = v.few_entries in
     omega (arith, count, few_matches, few_entries)
-body_few names game (bodies.Drill number first sum) v =
+body_few names head (bodies.Drill number first sum) v =
     let machines = length-map first (λ (line : ℕ × ℤ). lines.First (shown_first names line)) in
     let both = length-append (first_lines names first) (lines.Total sum ∷ []) in
     let few = v.few in
     omega (arith, machines, both, few)
 
-lab_few : (kind : Kind) (game : Payoffs) (noise : FlipRate) → length (lab_lines kind game noise) ≤ 2
-lab_few kinds.Match game noise = omega arith
-lab_few kinds.Tournament game noise = omega arith
-lab_few kinds.Drill game noise = omega arith
+own_lines_count : (names : List (List ℕ)) (noises : List FlipRate) → length noises ≤ length names → length (own_lines names noises) ≡ length noises
+own_lines_count names noises fit = beside_count (λ (name : List ℕ) (noise : FlipRate). lines.Own (shown_own name noise)) names noises fit
 
-lines_few : (r : Report) → IsValid r → length (lines_of r) ≤ 2148
+-- the lines that tell of the lab, where it isn't that of a drill
+pub lab_long : (kind : Kind) (offset : ℕ) (game : Payoffs) (noise : FlipRate) (names : List (List ℕ)) (noises : List FlipRate) → (kind ≡ kinds.Match) ⊎ (kind ≡ kinds.Tournament) → length noises ≤ length names
+    → 2 + length noises ≡ length (lab_lines kind offset game noise (own_lines names noises))
+lab_long kind offset game noise names noises (inl is) fit = rw is (omega (arith, own_lines_count names noises fit))
+lab_long kind offset game noise names noises (inr is) fit = rw is (omega (arith, own_lines_count names noises fit))
+
+lab_few : (kind : Kind) (offset : ℕ) (game : Payoffs) (noise : FlipRate) (own : List Line) → length (lab_lines kind offset game noise own) ≤ 2 + length own
+lab_few kinds.Match offset game noise own = omega arith
+lab_few kinds.Tournament offset game noise own = omega arith
+lab_few kinds.Drill offset game noise own = omega arith
+
+-- names that are gathered are no more than those that were shown
+gathered_few : (ns xs : List (List ℕ)) → length (with_names ns xs) ≤ length ns + length xs
+gathered_few ns [] = omega arith
+gathered_few ns (x ∷ xs) = omega (arith, gathered_few (with_name ns x) xs, one_longer ns x)
+
+pairs_few : (names : List (List ℕ)) (ms : List MatchLine) → length (match_names names ms) ≡ 2 * length ms
+pairs_few names [] = refl
+pairs_few names (m ∷ ms) = omega (arith, pairs_few names ms)
+
+shown_few : (names : List (List ℕ)) (head : Head) (body : Body) → IsBody (length names) head body → length (shown_names names body) ≤ 4224
+shown_few names head (bodies.Match line) v = omega arith
+shown_few names head (bodies.Tournament ms who es) v =
+    let few_matches = v.few_matches in
+    let few_entries = v.few_entries in
+    omega (arith, length-append (match_names names ms) (map (name_at names) who), pairs_few names ms, length-map who (name_at names), as_long ms who es v.counted, few_matches, few_entries)
+shown_few names head (bodies.Drill number first sum) v =
+    let few = v.few in
+    omega (arith, length-map first (λ (line : ℕ × ℤ). name_at names line.0), few)
+
+own_few : (t : Bool) (n : ℕ) → (if t then 0 else n) ≤ n
+own_few true n = omega arith
+own_few false n = omega arith
+
+-- a report has at most as many noises as names
+pub noises_fit : (r : Report) → IsValid r → length r.noises ≤ length r.names
+noises_fit r v = omega (arith, v.own, own_few (eqb r.version 1) (length r.names))
+
+lines_few : (r : Report) → IsValid r → length (lines_of r) < 2 ^ 16
 lines_few r v =
-    let lab = lab_lines (kind_of r.body) r.game r.noise in
-    let body = body_lines r.names r.body in
+    let own : List Line = own_lines r.names r.noises in
+    let lab : List Line = lab_lines (kind_of r.body) r.offset r.game r.noise own in
+    let body : List Line = body_lines r.names r.body in
     let outer = length-append lab (body ++ lines.End ∷ []) in
     let inner = length-append body (lines.End ∷ []) in
-    let few_lab = lab_few (kind_of r.body) r.game r.noise in
-    let few_body = body_few r.names r.game r.body v.body in
-    omega (arith, outer, inner, few_lab, few_body)
+    let few_lab = lab_few (kind_of r.body) r.offset r.game r.noise own in
+    let few_body = body_few r.names (head_of r) r.body v.body in
+    let owns = own_lines_count r.names r.noises (noises_fit r v) in
+    let names : length r.names ≤ 0 + length (shown_names r.names r.body) = subst (λ (n : ℕ). n ≤ 0 + length (shown_names r.names r.body)) (sym (ap (λ (ns : List (List ℕ)). length ns) v.shown)) (gathered_few [] (shown_names r.names r.body)) in
+    omega (arith, outer, inner, few_lab, few_body, owns, noises_fit r v, names, shown_few r.names (head_of r) r.body v.body)
 
 -- ---- the line at a place
 
@@ -128,7 +168,7 @@ printed r k (Some line) v is =
     let inside = slice_get_within (lines_of r) k line (sym is) in
     ap is_line (sym (get_or_from_slice_get (lines_of r) k line line (sym is))) ∙ lines_print r v k line inside
 
-few : (r : Report) (k : ℕ) (o : Option Line) → IsValid r → o ≡ slice_get (lines_of r) k → IfSome o (λ line. k < 2148)
+few : (r : Report) (k : ℕ) (o : Option Line) → IsValid r → o ≡ slice_get (lines_of r) k → IfSome o (λ line. k < 2 ^ 16)
 few r k None v is = tt
 few r k (Some line) v is =
     let inside = slice_get_within (lines_of r) k line (sym is) in
@@ -136,7 +176,7 @@ few r k (Some line) v is =
     omega (arith, inside, all)
 
 -- what is so of the line at a place
-pub so_there : (r : Report) (k : ℕ) (o : Option Line) → IsValid r → o ≡ slice_get (lines_of r) k → IfSome o (λ line. is_line line ≡ true) × IfSome o (λ line. k < 2148)
+pub so_there : (r : Report) (k : ℕ) (o : Option Line) → IsValid r → o ≡ slice_get (lines_of r) k → IfSome o (λ line. is_line line ≡ true) × IfSome o (λ line. k < 2 ^ 16)
 so_there r k o v is = (printed r k o v is, few r k o v is)
 
 -- ---- texts

@@ -1,7 +1,6 @@
 -- A line that is allowed leaves room for one more.
-use Rattle.std.proofs.Common.{◌≡◌, ℕ, ◌<◌, true, not, eqb, ltb, ◌&&◌, List, [], ◌∷◌, length, Option, Some, None, Result, Ok, Err, IfOk, refl, sym, ap, subst, ◌∙◌, arith, length-append}
+use Rattle.std.proofs.Common.{◌≡◌, ℕ, ◌<◌, true, not, eqb, ltb, ◌&&◌, List, [], ◌∷◌, ◌≤◌, length, Option, Some, None, Result, Ok, Err, IfOk, refl, sym, ap, subst, ◌∙◌, arith, length-append}
 use Rattle.std.proofs.lemmas.Bool.Decides.{nat_tests}
-use Rattle.std.proofs.lemmas.Int.{ints}
 use Rattle.std.proofs.lemmas.List.Elements.{All-nil, All-push}
 use Rattle.fixed_span.specs.Span.{Ends}
 use Rattle.result_lines.specs.declared.line.MatchLine.{MatchLine}
@@ -13,8 +12,9 @@ use Rattle.report_lines.specs.declared.line.ShownEntry.{ShownEntry}
 use Rattle.report_lines.specs.declared.line.Line.{Line}
 use Rattle.report_lines.specs.declared.line.Line.TheVariants as lines
 use Rattle.report_lines.specs.Texts.{is_match, is_line}
-use Rattle.history_model.specs.Game.{Payoffs}
-use Rattle.history_model.specs.Noise.{FlipRate}
+use Rattle.report_lines.proofs.Raising.{offset_is}
+use Rattle.report_names.specs.declared.own.OwnNoises.{OwnNoises}
+use Rattle.lab_report.specs.declared.report.Head.{Head}
 use Rattle.lab_report.specs.declared.state.BodySoFar.{BodySoFar}
 use Rattle.lab_report.specs.declared.state.BodySoFar.TheVariants as parts
 use Rattle.lab_report.specs.declared.state.State.{State}
@@ -23,8 +23,8 @@ use Rattle.lab_report.specs.declared.table.Table.{Table}
 use Rattle.lab_report.specs.declared.state.DrillSoFar.{DrillSoFar}
 use Rattle.lab_report.specs.declared.state.DrillSoFar.TheVariants as drills
 use Rattle.lab_report.specs.DrillRules.{HasDrillRoom, drill_allows, after_drill}
-use Rattle.lab_report.specs.Grammar.{HasRoom, StateHasRoom, after_head, body_allows, after_body, allows, after}
-use Rattle.lab_report.specs.MatchRules.{pays, placed_match, names_with_match, match_allows, after_match}
+use Rattle.lab_report.specs.Grammar.{HasRoom, StateHasRoom, after_head, body_allows, after_body, after_inner, allows, after, follows, inner_allows, own_of}
+use Rattle.lab_report.specs.MatchRules.{is_scored, placed_match, names_with_match, match_allows, after_match}
 use Rattle.report_names.specs.Names.{with_name, place_in}
 use Rattle.lab_report.specs.Room.{HasTableRoom}
 use Rattle.lab_report.specs.TableRules.{unnamed, adds_up, match_fits, entry_fits, with_match, with_entry, table_allows, after_table}
@@ -37,13 +37,13 @@ use Rattle.lab_report.proofs.States.{no_case}
 ltb_is : (a b : ℕ) → ltb a b ≡ true → a < b
 ltb_is a b h = grind (arith, nat_tests)
 
-summable : (score : Ends) → IsScore score → IsSummable score
-summable score h = record { low = omega (arith, ints, h.low); ordered = h.ordered; high = h.high }
+summable : (score : Ends) → IsScore 2 score → IsSummable score
+summable score h = record { low = h.low; ordered = h.ordered; high = h.high }
 
-match_room : (game : Payoffs) (names : List (List ℕ)) (table : Table) (m : ShownMatch) → HasTableRoom names table → is_match m ≡ true → match_fits game table m ≡ true → HasTableRoom (names_with_match names m) (with_match names table m)
-match_room game names table m room h e =
+match_room : (head : Head) (names : List (List ℕ)) (table : Table) (m : ShownMatch) → HasTableRoom names table → is_match m ≡ true → match_fits head table m ≡ true → HasTableRoom (names_with_match names m) (with_match names table m)
+match_room head names table m room h e =
     let p = match_parts m h in
-    let a = both_true (eqb (length table.entries) 0 && ltb (length table.matches) 2080) (pays game m.left_score m.right_score m.tally) e in
+    let a = both_true (eqb (length table.entries) 0 && ltb (length table.matches) 2080) (is_scored head m) e in
     let few : length table.matches < 2080 = ltb_is (length table.matches) 2080 (both_true (eqb (length table.entries) 0) (ltb (length table.matches) 2080) a.0).1 in
     let line : MatchLine = placed_match names m in
     let longer = length-append table.matches (line ∷ []) in
@@ -67,21 +67,29 @@ entry_room names table x room e =
       scores = room.scores;
     }
 
-match_kept : (game : Payoffs) (noise : FlipRate) (names : List (List ℕ)) (line : Option MatchLine) (i : Line) → match_allows game line i ≡ true → StateHasRoom (after_match game noise names line i)
-match_kept game noise names None (lines.Match m) e = tt
-match_kept game noise names (Some line) lines.End e = tt
-match_kept game noise names None _ e = no_case e
-match_kept game noise names (Some line) _ e = no_case e
+abbrev IsSmall : Head → Type 0
+IsSmall head = head.offset ≤ 1000000
 
-table_kept : (game : Payoffs) (noise : FlipRate) (names : List (List ℕ)) (table : Table) (i : Line) → HasTableRoom names table → is_line i ≡ true → table_allows game names table i ≡ true → StateHasRoom (after_table game noise names table i)
-table_kept game noise names table (lines.Match m) room h e = match_room game names table m room h e
-table_kept game noise names table (lines.Entry x) room h e = entry_room names table x room e
-table_kept game noise names table lines.End room h e = tt
-table_kept game noise names table _ room h e = no_case e
+match_kept : (head : Head) (own : OwnNoises) (names : List (List ℕ)) (line : Option MatchLine) (i : Line) → IsSmall head → match_allows head line i ≡ true → StateHasRoom (after_match head own names line i)
+match_kept head own names None (lines.Match m) small e = (small, tt)
+match_kept head own names (Some line) lines.End small e = tt
+match_kept head own names None _ small e = no_case e
+match_kept head own names (Some line) _ small e = no_case e
 
-body_kept : (game : Payoffs) (noise : FlipRate) (names : List (List ℕ)) (body : BodySoFar) (i : Line) → HasRoom body names → is_line i ≡ true → body_allows game names body i ≡ true → StateHasRoom (after_body game noise names body i)
-body_kept game noise names (parts.Match line) i room h e = match_kept game noise names line i e
-body_kept game noise names (parts.Tournament table) i room h e = table_kept game noise names table i room h e
+table_kept : (head : Head) (own : OwnNoises) (names : List (List ℕ)) (table : Table) (i : Line) → IsSmall head → HasTableRoom names table → is_line i ≡ true → table_allows head names table i ≡ true → StateHasRoom (after_table head own names table i)
+table_kept head own names table (lines.Match m) small room h e = (small, match_room head names table m room h e)
+table_kept head own names table (lines.Entry x) small room h e = (small, entry_room names table x room e)
+table_kept head own names table lines.End small room h e = tt
+table_kept head own names table _ small room h e = no_case e
+
+body_kept : (head : Head) (own : OwnNoises) (names : List (List ℕ)) (body : BodySoFar) (i : Line) → IsSmall head → HasRoom body names → is_line i ≡ true → body_allows head names body i ≡ true → StateHasRoom (after_body head own names body i)
+body_kept head own names (parts.Match line) i small room h e = match_kept head own names line i small e
+body_kept head own names (parts.Tournament table) i small room h e = table_kept head own names table i small room h e
+
+inner_kept : (head : Head) (own : OwnNoises) (names : List (List ℕ)) (body : BodySoFar) (i : Line) → StateHasRoom (states.InBody head own names body) → is_line i ≡ true → inner_allows head own names body i (own_of i) ≡ true
+    → StateHasRoom (after_inner head own names body i (own_of i))
+inner_kept head own names body (lines.Own x) room h e = room
+inner_kept head own names body i room h e = body_kept head own names body i room.0 room.1 h (both_true (body_allows head names body i) (follows head.version own.names names i) e).0
 
 drill_kept : (names : List (List ℕ)) (drill : DrillSoFar) (i : Line) → HasDrillRoom names drill → drill_allows drill i ≡ true → StateHasRoom (after_drill names drill i)
 drill_kept names drills.Begun (lines.Drill number) room e = rw room (omega arith, omega arith)
@@ -95,27 +103,27 @@ drill_kept names drills.Begun _ room e = no_case e
 drill_kept names (drills.Numbered number first) _ room e = no_case e
 drill_kept names (drills.Summed number first sum) _ room e = no_case e
 
-first_room : (kind : Kind) → StateHasRoom (after_head kind)
-first_room kinds.Match = refl
-first_room kinds.Drill = refl
-first_room kinds.Tournament = record { few_matches = omega arith; few_entries = omega arith; few_names = omega arith; scores = All-nil AreSummable }
+first_room : (version : ℕ) (kind : Kind) → StateHasRoom (after_head version kind)
+first_room version kinds.Match = refl
+first_room version kinds.Drill = refl
+first_room version kinds.Tournament = record { few_matches = omega arith; few_entries = omega arith; few_names = omega arith; scores = All-nil AreSummable }
 
 pub room_kept : (s : State) (i : Line) → StateHasRoom s → is_line i ≡ true → allows s i ≡ true → StateHasRoom (after s i)
-room_kept states.Start (lines.Head kind) room h e = first_room kind
-room_kept (states.AfterHead body) (lines.Game game) room h e = room
-room_kept (states.AfterGame body game) (lines.Noise noise) room h e = room
-room_kept (states.InBody game noise names body) i room h e = body_kept game noise names body i room h e
+room_kept states.Start (lines.Head x) room h e = first_room x.version x.kind
+room_kept (states.AfterHead version body) (lines.Game x) room h e = ((offset_is x h).few, room)
+room_kept (states.AfterGame version offset game body) (lines.Noise noise) room h e = room
+room_kept (states.InBody head own names body) i room h e = inner_kept head own names body i room h e
 room_kept (states.InDrill names drill) i room h e = drill_kept names drill i room e
 room_kept states.Start _ room h e = no_case e
-room_kept (states.AfterHead body) _ room h e = no_case e
-room_kept (states.AfterGame body game) _ room h e = no_case e
-room_kept (states.Ended game noise names body) _ room h e = no_case e
+room_kept (states.AfterHead version body) _ room h e = no_case e
+room_kept (states.AfterGame version offset game body) _ room h e = no_case e
+room_kept (states.Ended head noises names body) _ room h e = no_case e
 
 -- the same of a body, where memory may run out
-pub body_room : {E : Type 0} (made : Result State E) (state : State) (game : Payoffs) (noise : FlipRate) (names : List (List ℕ)) (body : BodySoFar) (i : Line) → state ≡ states.InBody game noise names body
-    → StateHasRoom state → is_line i ≡ true → allows state i ≡ true → IfOk made (λ new. new ≡ after_body game noise names body i) → IfOk made StateHasRoom
-body_room (Ok new) state game noise names body i is room h e made = rw made (body_kept game noise names body i (subst StateHasRoom is room) h (ap (λ (s : State). allows s i) (sym is) ∙ e))
-body_room (Err error) state game noise names body i is room h e made = tt
+pub inner_room : {E : Type 0} (made : Result State E) (state : State) (head : Head) (own : OwnNoises) (names : List (List ℕ)) (body : BodySoFar) (i : Line) → state ≡ states.InBody head own names body
+    → StateHasRoom state → is_line i ≡ true → allows state i ≡ true → IfOk made (λ new. new ≡ after_inner head own names body i (own_of i)) → IfOk made StateHasRoom
+inner_room (Ok new) state head own names body i is room h e made = rw made (inner_kept head own names body i (subst StateHasRoom is room) h (ap (λ (s : State). allows s i) (sym is) ∙ e))
+inner_room (Err error) state head own names body i is room h e made = tt
 
 -- the same of a drill
 pub drill_room : {E : Type 0} (made : Result State E) (state : State) (names : List (List ℕ)) (drill : DrillSoFar) (i : Line) → state ≡ states.InDrill names drill → StateHasRoom state → allows state i ≡ true

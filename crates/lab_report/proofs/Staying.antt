@@ -1,30 +1,30 @@
 -- Lines show the names that they showed, while names grow.
 use Rattle.std.proofs.Common.{◌≡◌, ℕ, ◌<◌, List, [], ◌∷◌, ◌++◌, length, map, refl, ap, arith}
 use Rattle.std.specs.List.{All}
-use Rattle.history_model.specs.Game.{Payoffs}
 use Rattle.result_lines.specs.declared.line.MatchLine.{MatchLine}
 use Rattle.result_lines.specs.declared.tables.EntryLine.{EntryLine}
 use Rattle.report_names.specs.Names.{name_at}
 use Rattle.report_names.proofs.Growth.{Grows, all_head, all_tail}
+use Rattle.lab_report.specs.declared.report.Head.{Head}
 use Rattle.lab_report.specs.Text.{shown_match, match_lines, entry_lines}
 use Rattle.lab_report.specs.Valid.{IsMatchOf, match_names}
 
-match_stays : (names more : List (List ℕ)) → Grows names more → (count : ℕ) (game : Payoffs) (line : MatchLine) → count ≡ length names → IsMatchOf count game line → shown_match more line ≡ shown_match names line
-match_stays names more g count game line e v = rw (g.stays line.left (omega (arith, e, v.left)), g.stays line.right (omega (arith, e, v.right))) refl
+match_stays : (names more : List (List ℕ)) → Grows names more → (count : ℕ) (head : Head) (line : MatchLine) → count ≡ length names → IsMatchOf count head line → shown_match more line ≡ shown_match names line
+match_stays names more g count head line e v = rw (g.stays line.left (omega (arith, e, v.left)), g.stays line.right (omega (arith, e, v.right))) refl
 
-pub matches_stay : (names more : List (List ℕ)) → Grows names more → (game : Payoffs) (ms : List MatchLine) → All (IsMatchOf (length names) game) ms → match_lines more ms ≡ match_lines names ms
-matches_stay names more g game [] all = refl
-matches_stay names more g game (m ∷ ms) all =
+pub matches_stay : (names more : List (List ℕ)) → Grows names more → (head : Head) (ms : List MatchLine) → All (IsMatchOf (length names) head) ms → match_lines more ms ≡ match_lines names ms
+matches_stay names more g head [] all = refl
+matches_stay names more g head (m ∷ ms) all =
     rw (
-      match_stays names more g (length names) game m refl (all_head (IsMatchOf (length names) game) m ms all),
-      matches_stay names more g game ms (all_tail (IsMatchOf (length names) game) m ms all),
+      match_stays names more g (length names) head m refl (all_head (IsMatchOf (length names) head) m ms all),
+      matches_stay names more g head ms (all_tail (IsMatchOf (length names) head) m ms all),
     ) refl
 
-pub match_names_stay : (names more : List (List ℕ)) → Grows names more → (game : Payoffs) (ms : List MatchLine) → All (IsMatchOf (length names) game) ms → match_names more ms ≡ match_names names ms
-match_names_stay names more g game [] all = refl
-match_names_stay names more g game (m ∷ ms) all =
-    let v = all_head (IsMatchOf (length names) game) m ms all in
-    rw (g.stays m.left v.left, g.stays m.right v.right, match_names_stay names more g game ms (all_tail (IsMatchOf (length names) game) m ms all)) refl
+pub match_names_stay : (names more : List (List ℕ)) → Grows names more → (head : Head) (ms : List MatchLine) → All (IsMatchOf (length names) head) ms → match_names more ms ≡ match_names names ms
+match_names_stay names more g head [] all = refl
+match_names_stay names more g head (m ∷ ms) all =
+    let v = all_head (IsMatchOf (length names) head) m ms all in
+    rw (g.stays m.left v.left, g.stays m.right v.right, match_names_stay names more g head ms (all_tail (IsMatchOf (length names) head) m ms all)) refl
 
 abbrev IsBelow : ℕ → ℕ → Type 0
 IsBelow count place = place < count

@@ -1,11 +1,10 @@
 -- What the tests of a tournament's lines say, both ways.
-use Rattle.std.proofs.Common.{◌≡◌, ℕ, zero, suc, ◌+◌, ◌*◌, ◌^◌, ◌<◌, ◌≤◌, Bool, true, false, not, eqb, ◌&&◌, List, [], ◌∷◌, ◌++◌, length, map, take, drop, get_or, ℤ, pos, ◌≤ℤ◌, Option, Some, None, if◌then◌else◌, refl, sym, ap, ◌∙◌, arith, length-append}
+use Rattle.std.proofs.Common.{◌≡◌, ℕ, zero, suc, ◌+◌, ◌*◌, ◌^◌, ◌<◌, ◌≤◌, Bool, true, false, not, eqb, ◌&&◌, List, [], ◌∷◌, ◌++◌, length, map, take, drop, get_or, pos, neg_ℤ, ◌≤ℤ◌, Option, Some, None, if◌then◌else◌, refl, sym, ap, ◌∙◌, arith, length-append}
 use Rattle.std.specs.Prelude.{◌≢◌}
 use Rattle.std.specs.List.{All, AllPairs, AllZip, Contains, list_all, range_with_len}
-use Rattle.std.specs.Ordering.{int_eq}
 use Rattle.std.proofs.Math.Seq.{get_or-append_seam}
 use Rattle.std.proofs.lemmas.Bool.{eqb-true}
-use Rattle.std.proofs.lemmas.Bool.Decides.{nat_tests, Decides-int_eq}
+use Rattle.std.proofs.lemmas.Bool.Decides.{nat_tests}
 use Rattle.std.proofs.lemmas.Int.{ints}
 use Rattle.std.proofs.lemmas.List.{get_or_append_left, get_or_default, length-drop, length-map, length-take}
 use Rattle.std.proofs.lemmas.List.Elements.{All-nil, All-cons}
@@ -13,7 +12,6 @@ use Rattle.std.proofs.lemmas.List.Folds.{Any-from_list_any, list_any-from_Any}
 use Rattle.std.proofs.lemmas.List.FromFn.{get_or-range_with_len, length-range_with_len}
 use Rattle.std.proofs.lemmas.List.Recursion.{and_at}
 use Rattle.std.proofs.lemmas.List.Sums.{count_by-le-length}
-use Rattle.history_model.specs.Game.{Payoffs}
 use Rattle.history_model.specs.Name.{is_name, IsName}
 use Rattle.fixed_span.specs.Span.{Ends, add, point}
 use Rattle.fixed_span.specs.Verdict.{verdict}
@@ -25,15 +23,16 @@ use Rattle.result_lines.specs.Ranks.{is_greater, rank_of, ranks_of, others, span
 use Rattle.result_lines.specs.Totals.{own_score, total_of, wins_of, undecided_of, wins_match, leaves_undecided}
 use Rattle.report_lines.specs.declared.line.ShownEntry.{ShownEntry}
 use Rattle.report_lines.specs.declared.line.Line.{Line}
-use Rattle.report_lines.specs.declared.line.Line.TheVariants as lines
 use Rattle.report_lines.specs.Texts.{is_total, is_count, is_rank, is_entry}
 use Rattle.report_names.specs.Names.{name_at}
-use Rattle.lab_report.specs.TableRules.{rank_read, unnamed, same_ends, adds_up, totals_in, same_rank, ranked_from, are_ranked}
+use Rattle.lab_report.specs.declared.report.Head.{Head}
+use Rattle.lab_report.specs.MatchRules.{same_ends}
+use Rattle.lab_report.specs.TableRules.{rank_read, unnamed, adds_up, totals_in, same_rank, ranked_from, are_ranked}
 use Rattle.report_names.specs.Places.{is_listed, are_listed}
-use Rattle.lab_report.specs.Text.{rank_shown, shown_entry, entry_lines}
+use Rattle.lab_report.specs.Text.{rank_shown, shown_entry, side_by_side}
 use Rattle.lab_report.specs.Valid.{IsScore, IsMatchOf, IsCountedIn}
 use Rattle.report_names.proofs.Growth.{all_head, all_tail}
-use Rattle.lab_report.proofs.Ranges.{both_true, both_back, same_number, ends, int_le_back}
+use Rattle.lab_report.proofs.Ranges.{both_true, both_back, same_number, ends_are, ends_back, int_le_back, wide}
 
 -- ---- ranks
 
@@ -159,17 +158,6 @@ unlisted_back who more place once =
 
 -- ---- totals and counts
 
-ends_are : (a b : Ends) → same_ends a b ≡ true → a ≡ b
-ends_are a b h =
-    let t = both_true (int_eq a.lo b.lo) (int_eq a.hi b.hi) h in
-    let lo : a.lo ≡ b.lo = (Decides-int_eq a.lo b.lo).0 t.0 in
-    let hi : a.hi ≡ b.hi = (Decides-int_eq a.hi b.hi).0 t.1 in
-    ap (λ (x : ℤ). ends x a.hi) lo ∙ ap (λ (x : ℤ). ends b.lo x) hi
-
-ends_back : (a b : Ends) → a ≡ b → same_ends a b ≡ true
-ends_back a b e =
-    both_back (int_eq a.lo b.lo) (int_eq a.hi b.hi) ((Decides-int_eq a.lo b.lo).1 (ap (λ (x : Ends). x.lo) e)) ((Decides-int_eq a.hi b.hi).1 (ap (λ (x : Ends). x.hi) e))
-
 number_back : (a b : ℕ) → a ≡ b → eqb a b ≡ true
 number_back a b e = grind (arith, nat_tests)
 
@@ -208,44 +196,47 @@ shown_again names place x e = ap (λ (name : List ℕ). shown_with name x (rank_
 
 -- the sum of so many scores
 record IsSum (n : ℕ) (span : Ends) : Type 0 where
-  low : pos 0 ≤ℤ span.lo
+  low : neg_ℤ (pos (n * 10 ^ 33)) ≤ℤ span.lo
   ordered : span.lo ≤ℤ span.hi
   high : span.hi ≤ℤ pos (n * 10 ^ 33)
 
-own_by : (left right : Bool) (a b : Ends) → IsScore a → IsScore b → IsScore (if left then a else if right then b else point (pos 0))
+own_by : (left right : Bool) (a b : Ends) → IsScore 2 a → IsScore 2 b → IsScore 2 (if left then a else if right then b else point (pos 0))
 own_by true right a b h k = h
 own_by false true a b h k = k
 own_by false false a b h k = record { low = omega (arith, ints); ordered = omega (arith, ints); high = omega (arith, ints) }
 
-own_in : (count : ℕ) (game : Payoffs) (i : ℕ) (m : MatchLine) → IsMatchOf count game m → IsScore (own_score i m)
-own_in count game i m v = own_by (eqb m.left i) (eqb m.right i) m.left_score m.right_score v.showable.left v.showable.right
+own_in : (count : ℕ) (head : Head) (i : ℕ) (m : MatchLine) → IsMatchOf count head m → IsScore 2 (own_score i m)
+own_in count head i m v =
+    let s = v.showable in
+    own_by (eqb m.left i) (eqb m.right i) m.left_score m.right_score (wide head.version m.left_score s.left) (wide head.version m.right_score s.right)
 
-sum_more : (n : ℕ) (a b : Ends) → IsScore a → IsSum n b → IsSum (suc n) (add a b)
+sum_more : (n : ℕ) (a b : Ends) → IsScore 2 a → IsSum n b → IsSum (suc n) (add a b)
 sum_more n a b h k = record {
   low = omega (arith, ints, h.low, k.low);
   ordered = omega (arith, ints, h.ordered, k.ordered);
   high = omega (arith, ints, h.high, k.high);
 }
 
-total_in : (count : ℕ) (game : Payoffs) (i : ℕ) (ms : List MatchLine) → All (IsMatchOf count game) ms → IsSum (length ms) (total_of i ms)
-total_in count game i [] all = record { low = omega (arith, ints); ordered = omega (arith, ints); high = omega (arith, ints) }
-total_in count game i (m ∷ ms) all =
-    sum_more (length ms) (own_score i m) (total_of i ms) (own_in count game i m (all_head (IsMatchOf count game) m ms all)) (total_in count game i ms (all_tail (IsMatchOf count game) m ms all))
+total_in : (count : ℕ) (head : Head) (i : ℕ) (ms : List MatchLine) → All (IsMatchOf count head) ms → IsSum (length ms) (total_of i ms)
+total_in count head i [] all = record { low = omega (arith, ints); ordered = omega (arith, ints); high = omega (arith, ints) }
+total_in count head i (m ∷ ms) all =
+    sum_more (length ms) (own_score i m) (total_of i ms) (own_in count head i m (all_head (IsMatchOf count head) m ms all)) (total_in count head i ms (all_tail (IsMatchOf count head) m ms all))
 
 is_total_back : (n : ℕ) (span : Ends) → n ≤ 2080 → IsSum n span → is_total span ≡ true
 is_total_back n span few h =
+    let low : neg_ℤ (pos (10 ^ 37)) ≤ℤ span.lo = omega (arith, ints, few, h.low) in
     let high : span.hi ≤ℤ pos (10 ^ 37) = omega (arith, ints, few, h.high) in
-    rw (int_le_back (pos 0) span.lo h.low, int_le_back span.lo span.hi h.ordered, int_le_back span.hi (pos (10 ^ 37)) high) refl
+    rw (int_le_back (neg_ℤ (pos (10 ^ 37))) span.lo low, int_le_back span.lo span.hi h.ordered, int_le_back span.hi (pos (10 ^ 37)) high) refl
 
 count_back : (n : ℕ) → n ≤ 2080 → is_count n ≡ true
 count_back n few = grind (arith, nat_tests)
 
 -- what is told of an entry can be printed
-pub entry_back : (game : Payoffs) (names : List (List ℕ)) (ms : List MatchLine) (place : ℕ) (e : EntryLine) → All IsName names → place < length names → length ms ≤ 2080 → All (IsMatchOf (length names) game) ms
+pub entry_back : (head : Head) (names : List (List ℕ)) (ms : List MatchLine) (place : ℕ) (e : EntryLine) → All IsName names → place < length names → length ms ≤ 2080 → All (IsMatchOf (length names) head) ms
     → IsCountedIn ms place e → is_rank (rank_shown e.rank) ≡ true → is_entry (shown_entry names place e) ≡ true
-entry_back game names ms place e are_names below few playable v rank =
+entry_back head names ms place e are_names below few playable v rank =
     let name : is_name (name_at names place) ≡ true = are_names place [] below in
-    let total : is_total e.total ≡ true = ap is_total v.total ∙ is_total_back (length ms) (total_of place ms) few (total_in (length names) game place ms playable) in
+    let total : is_total e.total ≡ true = ap is_total v.total ∙ is_total_back (length ms) (total_of place ms) few (total_in (length names) head place ms playable) in
     let wins : is_count e.wins ≡ true = count_back e.wins (omega (arith, v.wins, few, count_by-le-length (wins_match place) ms)) in
     let undecided : is_count e.undecided ≡ true = count_back e.undecided (omega (arith, v.undecided, few, count_by-le-length (leaves_undecided place) ms)) in
     rw (name, total, rank, wins, undecided) refl
@@ -262,9 +253,8 @@ pub zip_none : {A B : Type 0} (R : A → B → Type 0) (xs : List A) → AllZip 
 zip_none R [] z = refl
 zip_none R (x ∷ xs) z = absurd z
 
-pub entry_lines_push : (R : ℕ → EntryLine → Type 0) (names : List (List ℕ)) (who : List ℕ) (es : List EntryLine) (p : ℕ) (e : EntryLine) → AllZip R who es
-    → entry_lines names (who ++ p ∷ []) (es ++ e ∷ []) ≡ entry_lines names who es ++ lines.Entry (shown_entry names p e) ∷ []
-entry_lines_push R names [] [] p e z = refl
-entry_lines_push R names [] (b ∷ vs) p e z = absurd z
-entry_lines_push R names (a ∷ us) [] p e z = absurd z
-entry_lines_push R names (a ∷ us) (b ∷ vs) p e z = ap (λ (is : List Line). lines.Entry (shown_entry names a b) ∷ is) (entry_lines_push R names us vs p e z.1)
+pub beside_push : {A B : Type 0} (f : A → B → Line) (xs : List A) (ys : List B) (x : A) (y : B) → length xs ≡ length ys → side_by_side f (xs ++ x ∷ []) (ys ++ y ∷ []) ≡ side_by_side f xs ys ++ f x y ∷ []
+beside_push f [] [] x y same = refl
+beside_push f [] (b ∷ vs) x y same = absurd (omega (arith, same))
+beside_push f (a ∷ us) [] x y same = absurd (omega (arith, same))
+beside_push f (a ∷ us) (b ∷ vs) x y same = ap (λ (is : List Line). f a b ∷ is) (beside_push f us vs x y (omega (arith, same)))

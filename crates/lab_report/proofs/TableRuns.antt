@@ -4,9 +4,7 @@ use Rattle.std.specs.Prelude.{◌≢◌}
 use Rattle.std.specs.List.{All, AllPairs, AllZip}
 use Rattle.std.proofs.lemmas.Bool.Decides.{nat_tests}
 use Rattle.std.proofs.lemmas.List.{append-nil}
-use Rattle.history_model.specs.Game.{Payoffs}
 use Rattle.history_model.specs.Name.{IsName}
-use Rattle.history_model.specs.Noise.{FlipRate}
 use Rattle.texts.specs.Grammar.{run}
 use Rattle.result_lines.specs.declared.line.MatchLine.{MatchLine}
 use Rattle.result_lines.specs.declared.tables.EntryLine.{EntryLine}
@@ -15,21 +13,24 @@ use Rattle.report_lines.specs.declared.line.ShownEntry.{ShownEntry}
 use Rattle.report_lines.specs.declared.line.Line.{Line}
 use Rattle.report_lines.specs.declared.line.Line.TheVariants as lines
 use Rattle.report_lines.specs.Texts.{is_match, is_entry}
+use Rattle.report_names.specs.declared.own.OwnNoises.{OwnNoises}
 use Rattle.lab_report.specs.declared.report.Body.TheVariants as bodies
+use Rattle.lab_report.specs.declared.report.Head.{Head}
 use Rattle.lab_report.specs.declared.state.BodySoFar.TheVariants as parts
 use Rattle.lab_report.specs.declared.state.State.{State}
 use Rattle.lab_report.specs.declared.state.State.TheVariants as states
 use Rattle.lab_report.specs.Grammar.{grammar}
-use Rattle.lab_report.specs.MatchRules.{pays, placed_match, names_with_match}
+use Rattle.lab_report.specs.MatchRules.{is_scored, placed_match, names_with_match}
 use Rattle.report_names.specs.Names.{name_at, with_name, with_names, place_in}
 use Rattle.lab_report.specs.TableRules.{unnamed, adds_up, are_ranked, match_fits, entry_fits, is_whole}
 use Rattle.report_names.specs.Places.{is_listed, are_listed}
 use Rattle.lab_report.specs.Text.{shown_match, shown_entry, match_lines, entry_lines, body_lines}
 use Rattle.lab_report.specs.Valid.{IsMatchOf, IsCountedIn, IsTable, match_names}
 use Rattle.report_names.proofs.Growth.{all_head, all_tail, all_differ, names_then, place_kept}
+use Rattle.lab_report.proofs.FollowLaws.{OwnsAll, end_follows, entry_follows, match_follows}
 use Rattle.lab_report.proofs.MatchRuns.{place_back, placed_back}
 use Rattle.report_names.proofs.PlaceLaws.{Differ, none_differ}
-use Rattle.lab_report.proofs.Ranges.{both_back, leb_back, match_back, pays_back}
+use Rattle.lab_report.proofs.Ranges.{both_back, leb_back, match_back, scored_back}
 use Rattle.lab_report.proofs.States.{IsSoundBody, table_of, one_line}
 use Rattle.lab_report.proofs.TableLaws.{IsRanked, all_in_range, ranked_back, listed_all, unlisted_back, counted_back, unnamed_again, entry_back}
 
@@ -38,40 +39,40 @@ record AreAll (names : List (List ℕ)) : Type 0 where
   are_names : All IsName names
   differ : Differ names
 
-abbrev at : Payoffs → FlipRate → List (List ℕ) → List MatchLine → List ℕ → List EntryLine → State
-at game noise names ms who es = states.InBody game noise names (parts.Tournament (table_of ms who es))
+abbrev at : Head → OwnNoises → List (List ℕ) → List MatchLine → List ℕ → List EntryLine → State
+at head own names ms who es = states.InBody head own names (parts.Tournament (table_of ms who es))
 
 ltb_back : (a b : ℕ) → a < b → ltb a b ≡ true
 ltb_back a b h = grind (arith, nat_tests)
 
 -- ---- matches
 
-match_fits_back : (game : Payoffs) (names : List (List ℕ)) (done : List MatchLine) (m : MatchLine) → IsMatchOf (length names) game m → length done < 2080 → match_fits game (table_of done [] []) (shown_match names m) ≡ true
-match_fits_back game names done m v few = both_back (ltb (length done) 2080) (pays game m.left_score m.right_score m.tally) (ltb_back (length done) 2080 few) (pays_back game m v.showable.counts)
+match_fits_back : (head : Head) (names : List (List ℕ)) (done : List MatchLine) (m : MatchLine) → IsMatchOf (length names) head m → length done < 2080 → match_fits head (table_of done [] []) (shown_match names m) ≡ true
+match_fits_back head names done m v few = both_back (ltb (length done) 2080) (is_scored head (shown_match names m)) (ltb_back (length done) 2080 few) (scored_back head names m v.showable)
 
-matches_run : (game : Payoffs) (noise : FlipRate) (names : List (List ℕ)) → AreAll names → (more : List (List ℕ)) (todo : List MatchLine) (ns : List (List ℕ)) (done : List MatchLine) (rest : List Line)
-    → names ≡ with_names ns (match_names names todo ++ more) → All (IsMatchOf (length names) game) todo → length done + length todo ≤ 2080
-    → run grammar (at game noise ns done [] []) (match_lines names todo ++ rest) ≡ run grammar (at game noise (with_names ns (match_names names todo)) (done ++ todo) [] []) rest
-matches_run game noise names a more [] ns done rest e all few = ap (λ (ms : List MatchLine). run grammar (at game noise ns ms [] []) rest) (sym (append-nil done))
-matches_run game noise names a more (m ∷ ms) ns done rest e all few =
+matches_run : (head : Head) (own : OwnNoises) (names : List (List ℕ)) → AreAll names → OwnsAll head.version own names → (more : List (List ℕ)) (todo : List MatchLine) (ns : List (List ℕ)) (done : List MatchLine) (rest : List Line)
+    → names ≡ with_names ns (match_names names todo ++ more) → All (IsMatchOf (length names) head) todo → length done + length todo ≤ 2080
+    → run grammar (at head own ns done [] []) (match_lines names todo ++ rest) ≡ run grammar (at head own (with_names ns (match_names names todo)) (done ++ todo) [] []) rest
+matches_run head own names a o more [] ns done rest e all few = ap (λ (ms : List MatchLine). run grammar (at head own ns ms [] []) rest) (sym (append-nil done))
+matches_run head own names a o more (m ∷ ms) ns done rest e all few =
     let shown : ShownMatch = shown_match names m in
-    let v : IsMatchOf (length names) game m = all_head (IsMatchOf (length names) game) m ms all in
+    let v : IsMatchOf (length names) head m = all_head (IsMatchOf (length names) head) m ms all in
     let tail : List Line = match_lines names ms ++ rest in
     let next : List (List ℕ) = names_with_match ns shown in
     let placed : placed_match ns shown ≡ m = placed_back ns (match_names names ms ++ more) names m e a.differ v.left v.right in
-    let is : is_match shown ≡ true = match_back game names m a.are_names v in
+    let is : is_match shown ≡ true = match_back head names m a.are_names v in
     let room : length (done ++ m ∷ []) + length ms ≤ 2080 = omega (arith, few, length-append done (m ∷ [])) in
-    one_line (at game noise ns done [] []) (lines.Match shown) tail is (match_fits_back game names done m v (omega (arith, few)))
-    ∙ ap (λ (l : MatchLine). run grammar (at game noise next (done ++ l ∷ []) [] []) tail) placed
-    ∙ matches_run game noise names a more ms next (done ++ m ∷ []) rest e (all_tail (IsMatchOf (length names) game) m ms all) room
-    ∙ ap (λ (ds : List MatchLine). run grammar (at game noise (with_names next (match_names names ms)) ds [] []) rest) (append_assoc done (m ∷ []) ms)
+    one_line (at head own ns done [] []) (lines.Match shown) tail is (both_back _ _ (match_fits_back head names done m v (omega (arith, few))) (match_follows head.version own names ns (match_names names ms ++ more) shown o e))
+    ∙ ap (λ (l : MatchLine). run grammar (at head own next (done ++ l ∷ []) [] []) tail) placed
+    ∙ matches_run head own names a o more ms next (done ++ m ∷ []) rest e (all_tail (IsMatchOf (length names) head) m ms all) room
+    ∙ ap (λ (ds : List MatchLine). run grammar (at head own (with_names next (match_names names ms)) ds [] []) rest) (append_assoc done (m ∷ []) ms)
 
 -- ---- entries
 
 -- what is so of the matches behind which entries stand
-record AreMatches (game : Payoffs) (names : List (List ℕ)) (ms : List MatchLine) : Type 0 where
+record AreMatches (head : Head) (names : List (List ℕ)) (ms : List MatchLine) : Type 0 where
   few : length ms ≤ 2080
-  playable : All (IsMatchOf (length names) game) ms
+  playable : All (IsMatchOf (length names) head) ms
 
 -- entries that have no line yet
 record AreLeft (names : List (List ℕ)) (ms : List MatchLine) (ns : List (List ℕ)) (done who : List ℕ) (done_lines es : List EntryLine) : Type 0 where
@@ -93,15 +94,15 @@ entry_fits_at names ms done ps done_lines p place e same v once few =
     (both_back (ltb (length done_lines) 64) (not (is_listed done p)) (ltb_back (length done_lines) 64 few) (unlisted_back done ps p once))
     (counted_back ms names p e v))
 
-entries_run : (game : Payoffs) (noise : FlipRate) (names : List (List ℕ)) → AreAll names → (ms : List MatchLine) → AreMatches game names ms → (who : List ℕ) (es : List EntryLine) (ns : List (List ℕ)) (done : List ℕ) (done_lines : List EntryLine) (rest : List Line)
+entries_run : (head : Head) (own : OwnNoises) (names : List (List ℕ)) → AreAll names → OwnsAll head.version own names → (ms : List MatchLine) → AreMatches head names ms → (who : List ℕ) (es : List EntryLine) (ns : List (List ℕ)) (done : List ℕ) (done_lines : List EntryLine) (rest : List Line)
     → AreLeft names ms ns done who done_lines es
-    → run grammar (at game noise ns ms done done_lines) (entry_lines names who es ++ rest) ≡ run grammar (at game noise (with_names ns (map (name_at names) who)) ms (done ++ who) (done_lines ++ es)) rest
-entries_run game noise names a ms v [] [] ns done done_lines rest l =
-    ap (λ (d : List ℕ). run grammar (at game noise ns ms d done_lines) rest) (sym (append-nil done))
-    ∙ ap (λ (d : List EntryLine). run grammar (at game noise ns ms (done ++ []) d) rest) (sym (append-nil done_lines))
-entries_run game noise names a ms v [] (e ∷ es) ns done done_lines rest l = absurd l.counted
-entries_run game noise names a ms v (p ∷ ps) [] ns done done_lines rest l = absurd l.counted
-entries_run game noise names a ms v (p ∷ ps) (e ∷ es) ns done done_lines rest l =
+    → run grammar (at head own ns ms done done_lines) (entry_lines names who es ++ rest) ≡ run grammar (at head own (with_names ns (map (name_at names) who)) ms (done ++ who) (done_lines ++ es)) rest
+entries_run head own names a o ms v [] [] ns done done_lines rest l =
+    ap (λ (d : List ℕ). run grammar (at head own ns ms d done_lines) rest) (sym (append-nil done))
+    ∙ ap (λ (d : List EntryLine). run grammar (at head own ns ms (done ++ []) d) rest) (sym (append-nil done_lines))
+entries_run head own names a o ms v [] (e ∷ es) ns done done_lines rest l = absurd l.counted
+entries_run head own names a o ms v (p ∷ ps) [] ns done done_lines rest l = absurd l.counted
+entries_run head own names a o ms v (p ∷ ps) (e ∷ es) ns done done_lines rest l =
     let name : List ℕ = name_at names p in
     let x : ShownEntry = shown_entry names p e in
     let below : p < length names = all_head (λ (q : ℕ). q < length names) p ps l.below in
@@ -109,7 +110,7 @@ entries_run game noise names a ms v (p ∷ ps) (e ∷ es) ns done done_lines res
     let tail : List Line = entry_lines names ps es ++ rest in
     let next : List (List ℕ) = with_name ns name in
     let place : place_in ns name ≡ p = entry_place names ns p ps a l.shown below in
-    let is : is_entry x ≡ true = entry_back game names ms p e a.are_names below v.few v.playable l.counted.0 rank in
+    let is : is_entry x ≡ true = entry_back head names ms p e a.are_names below v.few v.playable l.counted.0 rank in
     let fits : entry_fits ns (table_of ms done done_lines) x ≡ true = entry_fits_at names ms done ps done_lines p (place_in ns name) e place l.counted.0 l.once (omega (arith, l.few)) in
     let left : AreLeft names ms next (done ++ p ∷ []) ps (done_lines ++ e ∷ []) es = record {
       shown = l.shown;
@@ -119,25 +120,25 @@ entries_run game noise names a ms v (p ∷ ps) (e ∷ es) ns done done_lines res
       ranked = all_tail IsRanked e es l.ranked;
       few = omega (arith, l.few, length-append done_lines (e ∷ []));
     } in
-    one_line (at game noise ns ms done done_lines) (lines.Entry x) tail is fits
-    ∙ ap (λ (q : ℕ). run grammar (at game noise next ms (done ++ q ∷ []) (done_lines ++ unnamed x ∷ [])) tail) place
-    ∙ ap (λ (y : EntryLine). run grammar (at game noise next ms (done ++ p ∷ []) (done_lines ++ y ∷ [])) tail) (unnamed_again names p e)
-    ∙ entries_run game noise names a ms v ps es next (done ++ p ∷ []) (done_lines ++ e ∷ []) rest left
-    ∙ ap (λ (d : List ℕ). run grammar (at game noise (with_names next (map (name_at names) ps)) ms d ((done_lines ++ e ∷ []) ++ es)) rest) (append_assoc done (p ∷ []) ps)
-    ∙ ap (λ (d : List EntryLine). run grammar (at game noise (with_names next (map (name_at names) ps)) ms (done ++ p ∷ ps) d) rest) (append_assoc done_lines (e ∷ []) es)
+    one_line (at head own ns ms done done_lines) (lines.Entry x) tail is (both_back _ _ fits (entry_follows head.version own names ns (map (name_at names) ps) x o l.shown))
+    ∙ ap (λ (q : ℕ). run grammar (at head own next ms (done ++ q ∷ []) (done_lines ++ unnamed x ∷ [])) tail) place
+    ∙ ap (λ (y : EntryLine). run grammar (at head own next ms (done ++ p ∷ []) (done_lines ++ y ∷ [])) tail) (unnamed_again names p e)
+    ∙ entries_run head own names a o ms v ps es next (done ++ p ∷ []) (done_lines ++ e ∷ []) rest left
+    ∙ ap (λ (d : List ℕ). run grammar (at head own (with_names next (map (name_at names) ps)) ms d ((done_lines ++ e ∷ []) ++ es)) rest) (append_assoc done (p ∷ []) ps)
+    ∙ ap (λ (d : List EntryLine). run grammar (at head own (with_names next (map (name_at names) ps)) ms (done ++ p ∷ ps) d) rest) (append_assoc done_lines (e ∷ []) es)
 
 -- ---- the end
 
-whole_back : (game : Payoffs) (names : List (List ℕ)) (ms : List MatchLine) (who : List ℕ) (es : List EntryLine) → IsTable (length names) game ms who es → is_whole names (table_of ms who es) ≡ true
-whole_back game names ms who es v =
+whole_back : (head : Head) (names : List (List ℕ)) (ms : List MatchLine) (who : List ℕ) (es : List EntryLine) → IsTable (length names) head ms who es → is_whole names (table_of ms who es) ≡ true
+whole_back head names ms who es v =
     both_back (leb 1 (length es) && are_ranked es) (are_listed (length names) who)
     (both_back (leb 1 (length es)) (are_ranked es) (leb_back 1 (length es) v.some_entries) (ranked_back es v.ranked))
     (listed_all (length names) who v.each_once.all)
 
-pub table_runs : (game : Payoffs) (noise : FlipRate) (names : List (List ℕ)) (ms : List MatchLine) (who : List ℕ) (es : List EntryLine) → IsSoundBody game names (bodies.Tournament ms who es)
-    → run grammar (at game noise [] [] [] []) (body_lines names (bodies.Tournament ms who es) ++ lines.End ∷ []) ≡ Some (states.Ended game noise names (bodies.Tournament ms who es))
-table_runs game noise names ms who es v =
-    let t : IsTable (length names) game ms who es = v.holds in
+pub table_runs : (head : Head) (own : OwnNoises) (names : List (List ℕ)) (ms : List MatchLine) (who : List ℕ) (es : List EntryLine) → IsSoundBody head names (bodies.Tournament ms who es) → OwnsAll head.version own names
+    → run grammar (at head own [] [] [] []) (body_lines names (bodies.Tournament ms who es) ++ lines.End ∷ []) ≡ Some (states.Ended head own.noises names (bodies.Tournament ms who es))
+table_runs head own names ms who es v o =
+    let t : IsTable (length names) head ms who es = v.holds in
     let whos : List (List ℕ) = map (name_at names) who in
     let first : List (List ℕ) = with_names [] (match_names names ms) in
     let differ : Differ names = subst Differ (sym v.shown) (all_differ [] (match_names names ms ++ whos) none_differ) in
@@ -152,8 +153,8 @@ table_runs game noise names ms who es v =
       ranked = all_in_range es t.few_entries t.ranked;
       few = omega (arith, t.few_entries);
     } in
-    ap (run grammar (at game noise [] [] [] [])) (append_assoc (match_lines names ms) (entry_lines names who es) end)
-    ∙ matches_run game noise names a whos ms [] [] (entry_lines names who es ++ end) v.shown t.playable (omega (arith, t.few_matches))
-    ∙ entries_run game noise names a ms (record { few = t.few_matches; playable = t.playable }) who es first [] [] end left
-    ∙ ap (λ (ns : List (List ℕ)). run grammar (at game noise ns ms who es) end) (sym then)
-    ∙ one_line (at game noise names ms who es) lines.End [] refl (whole_back game names ms who es t)
+    ap (run grammar (at head own [] [] [] [])) (append_assoc (match_lines names ms) (entry_lines names who es) end)
+    ∙ matches_run head own names a o whos ms [] [] (entry_lines names who es ++ end) v.shown t.playable (omega (arith, t.few_matches))
+    ∙ entries_run head own names a o ms (record { few = t.few_matches; playable = t.playable }) who es first [] [] end left
+    ∙ ap (λ (ns : List (List ℕ)). run grammar (at head own ns ms who es) end) (sym then)
+    ∙ one_line (at head own names ms who es) lines.End [] refl (both_back _ _ (whole_back head names ms who es t) (end_follows head.version own names names o refl))

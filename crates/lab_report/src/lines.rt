@@ -6,7 +6,8 @@ ghost use Rattle.report_lines.specs.Texts.{is_line};
 ghost use Rattle.lab_report.specs.Text.{body_lines, drill_lines, entry_lines, first_lines, kind_of, lab_lines, lines_of, match_lines, own_lines, rank_shown, shown_entry, shown_first, shown_match};
 ghost use Rattle.lab_report.specs.Valid.{IsBody, IsTable, IsValid, head_of};
 
-use crate::{Body, Names, Noises, Report};
+use crate::{Body, Names, Report};
+use history_model::{Name, Noise};
 use report_lines::{
     Kind, Line, ShownEntry, ShownFirst, ShownGame, ShownHead, ShownMatch, ShownOwn,
 };
@@ -173,11 +174,11 @@ fn body_count(report: &Report) -> usize
     }
 }
 
-fn own_at(names: &Names, noises: &Noises, index: usize) -> Option<Line>
+fn own_at(names: &[Name], noises: &[Noise], index: usize) -> Option<Line>
     ensures { result ≡ slice_get (own_lines names.now noises.now) index }
 {
-    let name = names.as_slice().get(index)?;
-    let noise = noises.as_slice().get(index)?;
+    let name = names.get(index)?;
+    let noise = noises.get(index)?;
     Some(Line::Own(ShownOwn {
         name: *name,
         noise: *noise,
@@ -193,7 +194,7 @@ fn lab_at(report: &Report, index: usize) -> Option<Line>
         (Kind::Drill, _) => None,
         (_, 0) => Some(Line::Game(ShownGame::of(&report.game, report.offset))),
         (_, 1) => Some(Line::Noise(report.noise)),
-        (_, index) => own_at(&report.names, &report.noises, index - 2),
+        (_, index) => own_at(report.names.as_slice(), report.noises.as_slice(), index - 2),
     }
 }
 
@@ -203,7 +204,7 @@ fn lab_count(report: &Report) -> usize
 {
     match kind_of(&report.body) {
         Kind::Drill => 0,
-        _ => 2 + report.noises.as_slice().len(),
+        Kind::Match | Kind::Tournament => 2 + report.noises.as_slice().len(),
     }
 }
 

@@ -1,18 +1,18 @@
 //! Reads reports, each from its one text.
-ghost use Rattle.std.specs.Prelude.{ℕ, ◌≡◌, ◌-◌, ◌<◌, ◌^◌, false, length, IfOk, IfSome, IfNone};
-ghost use Rattle.texts.specs.Grammar.{pieces, read_on};
+ghost use Rattle.std.specs.Prelude.{ℕ, ◌≡◌, ◌-◌, ◌<◌, ◌^◌, false, length, IfOk, IfErr, IfSome, IfNone};
+ghost use Rattle.texts.specs.Grammar.{pieces, read_on, step};
 ghost use Rattle.report_lines.specs.Reading.{line_of};
 ghost use Rattle.lab_report.specs.declared.report.Report.{Report};
 ghost use Rattle.lab_report.specs.declared.reading.ReportError.TheVariants.{NoMemory};
 ghost use Rattle.lab_report.specs.declared.state.State.TheVariants.{Start};
-ghost use Rattle.lab_report.specs.Grammar.{grammar, is_ended};
+ghost use Rattle.lab_report.specs.Grammar.{StateHasRoom, grammar, is_ended};
 ghost use Rattle.lab_report.specs.Read.{Gives, IfBad, IsBadLine, Reading, Refuses, whole};
 ghost use Rattle.lab_report.specs.Text.{report_text};
 ghost use Rattle.lab_report.specs.Valid.{IsValid, OneReportAText};
 
+use crate::Report;
 use crate::rules::{after, allows};
 use crate::state::State;
-use crate::Report;
 use report_lines::{Line, line_of, lines_are_exact};
 use std::alloc::{AllocError, Global};
 use texts::{first_line, lines_are_read_in_turn, reading_is_exact, refusal_is_exact};
@@ -67,10 +67,32 @@ fn report_of(state: State) -> Option<Report>
     }
 }
 
+// What the text of a line leaves behind those that led to a state; `None` where it can't stand there.
+fn step(
+    alloc: Global,
+    buffer: &mut String,
+    state: State,
+    text: &[u8],
+) -> Result<Option<State>, ReportError>
+    requires room { StateHasRoom state }
+    ensures step { IfOk result (λ next. next ≡ step grammar line_of state text.now) }
+    ensures room { IfOk result (λ next. IfSome next StateHasRoom) }
+    ensures error { IfErr result (λ error. error ≡ NoMemory) }
+{
+    let next = match line_of(buffer, text)? {
+        None => return Ok(None),
+        Some(next) => next,
+    };
+    if !allows(alloc, &state, &next)? {
+        return Ok(None);
+    }
+    Ok(Some(after(alloc, state, next)?))
+}
+
 // Reads one line after the other.
 fn read_lines(alloc: Global, bytes: &[u8]) -> Result<Report, ReportError>
     requires length { length bytes.now < 2 ^ 32 - 1 }
-    ensures reading { Reading result (read_on grammar line_of Start 1 (pieces bytes.now)) }
+    ensures { Reading result (read_on grammar line_of Start 1 (pieces bytes.now)) }
 {
     lines_are_read_in_turn::<State, Line>();
     let mut buffer = String::new(alloc);
@@ -78,14 +100,10 @@ fn read_lines(alloc: Global, bytes: &[u8]) -> Result<Report, ReportError>
     let mut rest = bytes;
     let mut number: u32 = 1;
     while let Some((text, more)) = first_line(rest) {
-        let next = match line_of(&mut buffer, text)? {
+        state = match step(alloc, &mut buffer, state, text)? {
             None => return Err(ReportError::BadLine(number)),
             Some(next) => next,
         };
-        if !allows(alloc, &state, &next)? {
-            return Err(ReportError::BadLine(number));
-        }
-        state = after(alloc, state, next)?;
         rest = more;
         number += 1;
     }

@@ -2,10 +2,10 @@
 use Rattle.std.proofs.Common.{◌≡◌, ℕ, zero, suc, ◌+◌, ◌^◌, ◌<◌, ◌≤◌, ℤ, List, [], ◌∷◌, ◌++◌, length, map, take, drop, get_or, refl, sym, ap, subst, ◌∙◌, add-one, drop-cons, arith}
 use Rattle.std.specs.List.{All}
 use Rattle.std.proofs.lemmas.List.{get_or_default, length-map, map-append, take_all, take_more}
-use Rattle.std.proofs.lemmas.List.Elements.{All-head, All-map, All-push, All-tail}
+use Rattle.std.proofs.lemmas.List.Elements.{All-head, All-map, All-nil, All-push, All-tail}
 use Rattle.history_model.specs.Game.{Payoffs}
 use Rattle.history_model.specs.Name.{IsName}
-use Rattle.history_model.specs.Noise.{FlipRate, no_noise}
+use Rattle.history_model.specs.Noise.{FlipRate, IsFlipRate, no_noise}
 use Rattle.lab_report.specs.declared.report.Body.TheVariants as bodies
 use Rattle.lab_report.specs.declared.report.Report.{Report}
 use Rattle.report_names.specs.Names.{NamesGrow, name_at, with_name, with_names, place_in}
@@ -95,12 +95,12 @@ module _ (law : NamesGrow) where
       let order : List (List ℕ) = first_order names first in
       let inside = law.placed [] (first_names names first) in
       record {
-        version = refl;
-        offset = refl;
+        head = record { some = omega arith; known = omega arith; first = λ e. refl; raised = record { few = omega arith; least = λ some. absurd (omega (arith, some)) } };
         game = record { reward = omega arith; sucker = omega arith; temptation = omega arith; punishment = omega arith };
         noise = record { some = omega arith; few = omega arith; half = omega arith };
-        noises = refl;
-        fixed = (refl, refl);
+        own = refl;
+        are_noises = All-nil IsFlipRate;
+        fixed = refl;
         are_names = holds_on law IsName (first_names names first) are_names;
         shown = ap (with_names []) (sym (all_shown names first));
         body = record {

@@ -1,3 +1,4 @@
 pub mod DrillMade
 pub mod Gathering
 pub mod MadeLaws
+pub mod MatchMade

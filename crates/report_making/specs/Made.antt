@@ -1,11 +1,11 @@
 -- The reports that are made of a match, of a tournament, and of a drill.
-use Rattle.std.specs.Prelude.{ℕ, ℤ, ◌≡◌, ◌≤◌, All, List, [], ◌∷◌, ◌++◌, length, map, if◌then◌else◌, bytes_eq}
-use Rattle.history_model.specs.Game.{Payoffs}
+use Rattle.std.specs.Prelude.{ℕ, ℤ, ◌≡◌, ◌≤◌, All, List, [], ◌∷◌, ◌++◌, length, map, ◌==◌, slice_index_or, if◌then◌else◌, bytes_eq}
 use Rattle.history_model.specs.Noise.{FlipRate, no_noise}
 use Rattle.result_lines.specs.declared.line.MatchLine.{MatchLine}
 use Rattle.result_lines.specs.declared.tables.Totals.{Totals}
 use Rattle.result_lines.specs.Totals.{entries_of}
 use Rattle.lab_report.specs.declared.report.Body.TheVariants as bodies
+use Rattle.lab_report.specs.declared.report.Head.{Head}
 use Rattle.lab_report.specs.declared.report.Report.{Report}
 use Rattle.report_names.specs.Names.{name_at, place_in, with_names}
 use Rattle.lab_report.specs.Text.{shown_match}
@@ -15,22 +15,27 @@ use Rattle.lab_report.specs.Valid.{IsMatchOf, drill_game, first_names, match_nam
 abbrev pub names_of_pair : List ℕ → List ℕ → List (List ℕ)
 names_of_pair left right = if bytes_eq left right then left ∷ [] else left ∷ right ∷ []
 
--- a report of version 1, whose match is between the names' places
-abbrev pub match_report_of : Payoffs → FlipRate → List ℕ → List ℕ → MatchLine → Report
-match_report_of game noise left right line = record {
-  version = 1;
-  offset = 0;
-  game = game;
-  noise = noise;
-  noises = [];
+-- the noises that the names of a match have of their own, which version 1 doesn't show
+abbrev pub noises_of_pair : ℕ → List ℕ → List ℕ → FlipRate → FlipRate → List FlipRate
+noises_of_pair version left right left_noise right_noise =
+    if version == 1 then [] else if bytes_eq left right then left_noise ∷ [] else left_noise ∷ right_noise ∷ []
+
+-- a report whose match is between the names' places
+abbrev pub match_report_of : Head → List ℕ → List ℕ → FlipRate → FlipRate → MatchLine → Report
+match_report_of head left right left_noise right_noise line = record {
+  version = head.version;
+  offset = head.offset;
+  game = head.game;
+  noise = head.noise;
+  noises = noises_of_pair head.version left right left_noise right_noise;
   names = names_of_pair left right;
   body = bodies.Match (record line { left = 0; right = if bytes_eq left right then 0 else 1 });
 }
 
 -- results of a tournament of so many entries: matches that a report can show, and what they give each entry
-pub record AreResults (count : ℕ) (game : Payoffs) (totals : Totals) : Type 0 where
+pub record AreResults (count : ℕ) (head : Head) (totals : Totals) : Type 0 where
   pub few_matches : length totals.matches ≤ 2080
-  pub playable : All (IsMatchOf count game) totals.matches
+  pub playable : All (IsMatchOf count head) totals.matches
   pub entries : totals.entries ≡ entries_of count totals.matches
 
 -- the names of all entries in the order of a report's lines: first those of the matches, then the others
@@ -50,16 +55,24 @@ moved_matches names order matches = map (moved_match names order) matches
 abbrev pub places_in : List (List ℕ) → List (List ℕ) → List ℕ
 places_in order names = map (place_in order) names
 
--- a report of version 1 of a tournament of entries of these names
-abbrev pub tournament_report_of : Payoffs → FlipRate → List (List ℕ) → Totals → Report
-tournament_report_of game noise names totals =
+-- the noise that a name has of its own, among those of all names
+abbrev pub noise_of : List (List ℕ) → List FlipRate → List ℕ → FlipRate
+noise_of names noises name = slice_index_or noises (place_in names name) no_noise
+
+-- the noises in the order of the names in the report, which version 1 doesn't show
+abbrev pub noises_in_order : ℕ → List (List ℕ) → List FlipRate → List (List ℕ) → List FlipRate
+noises_in_order version names noises order = if version == 1 then [] else map (noise_of names noises) order
+
+-- a report of a tournament of entries of these names, which have these noises
+abbrev pub tournament_report_of : Head → List (List ℕ) → List FlipRate → Totals → Report
+tournament_report_of head names noises totals =
     let order : List (List ℕ) = names_in_order names totals.matches in
     record {
-      version = 1;
-      offset = 0;
-      game = game;
-      noise = noise;
-      noises = [];
+      version = head.version;
+      offset = head.offset;
+      game = head.game;
+      noise = head.noise;
+      noises = noises_in_order head.version names noises order;
       names = order;
       body = bodies.Tournament (moved_matches names order totals.matches) (places_in order names) totals.entries;
     }

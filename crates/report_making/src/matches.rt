@@ -1,10 +1,10 @@
 //! Makes the reports of matches.
 ghost use Rattle.std.specs.Prelude.{◌≡◌, IfOk, bytes_eq};
-ghost use Rattle.lab_report.specs.Valid.{IsShowable, IsValid};
-ghost use Rattle.report_making.specs.Made.{match_report_of, names_of_pair};
+ghost use Rattle.lab_report.specs.Valid.{IsHead, IsShowable, IsValid};
+ghost use Rattle.report_making.specs.Made.{match_report_of, names_of_pair, noises_of_pair};
 
-use history_model::{Game, Name, NoMemory, Noise};
-use lab_report::{Body, Names, Noises, Report};
+use history_model::{Name, NoMemory, Noise};
+use lab_report::{Body, Head, Names, Noises, Report};
 use result_lines::MatchLine;
 use std::alloc::Global;
 
@@ -24,38 +24,65 @@ fn names_of_pair(alloc: Global, left: &Name, right: &Name) -> Result<Names, NoMe
     Ok(names)
 }
 
+// The noises of two players, one where their names are the same; none in version 1.
+fn noises_of_pair(
+    alloc: Global,
+    version: u32,
+    left: &Name,
+    right: &Name,
+    left_noise: &Noise,
+    right_noise: &Noise,
+) -> Result<Noises, NoMemory>
+    ensures { IfOk result (λ noises. noises ≡ noises_of_pair version left.now right.now left_noise.now right_noise.now) }
+{
+    let mut noises = Vec::new(alloc);
+    if version != 1 {
+        noises.push(*left_noise)?;
+        if !is_same(left, right) {
+            noises.push(*right_noise)?;
+        }
+    }
+    Ok(Noises::from_vec(noises))
+}
+
 /// The report of one match between players of these names: what `line` says of it, apart from the
-/// places of its entries, which are here those of the names in the report.
+/// places of its entries, which are here those of the names in the report. In version 2 it shows the
+/// noise of each name: that of `left`, and that of `right` where its name is another one.
 ///
 /// # Errors
 ///
 /// `NoMemory` alone.
 pub fn match_report(
     alloc: Global,
-    game: &Game,
-    noise: &Noise,
+    head: &Head,
     left: &Name,
     right: &Name,
+    left_noise: &Noise,
+    right_noise: &Noise,
     line: &MatchLine,
 ) -> Result<Report, NoMemory>
-    requires showable { IsShowable game.now line.now }
-    ensures report { IfOk result (λ report. report ≡ match_report_of game.now noise.now left.now right.now line.now) }
+    requires head { IsHead head.now }
+    requires showable { IsShowable head.now line.now }
+    ensures report { IfOk result (λ report. report ≡ match_report_of head.now left.now right.now left_noise.now right_noise.now line.now) }
     ensures valid { IfOk result IsValid }
 {
     // The parts are in range by their types.
     let _ranges = (
-        game.unsigned(),
-        noise.denominator(),
+        head.game.unsigned(),
+        head.noise.denominator(),
+        left_noise.denominator(),
+        right_noise.denominator(),
         left.len(),
         right.len(),
     );
     let names = names_of_pair(alloc, left, right)?;
+    let noises = noises_of_pair(alloc, head.version, left, right, left_noise, right_noise)?;
     Ok(Report {
-        version: 1,
-        offset: 0,
-        game: *game,
-        noise: *noise,
-        noises: Noises::from_vec(Vec::new(alloc)),
+        version: head.version,
+        offset: head.offset,
+        game: head.game,
+        noise: head.noise,
+        noises,
         names,
         body: Body::Match {
             line: MatchLine {

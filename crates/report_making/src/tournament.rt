@@ -2,12 +2,13 @@
 ghost use Rattle.std.specs.Prelude.{◌≡◌, ◌≢◌, ◌+◌, ◌*◌, ◌-◌, ◌^◌, ◌<◌, ◌≤◌, [], All, length, map, IfOk};
 ghost use Rattle.std.specs.List.{AllPairs};
 ghost use Rattle.history_model.specs.Name.{IsName};
-ghost use Rattle.report_names.specs.Names.{with_names};
-ghost use Rattle.lab_report.specs.Valid.{IsValid, match_names};
-ghost use Rattle.report_making.specs.Made.{AreResults, ShowsNames, moved_match, moved_matches, names_in_order, places_in, tournament_report_of};
+ghost use Rattle.history_model.specs.Noise.{IsFlipRate};
+ghost use Rattle.report_names.specs.Names.{place_in, with_names};
+ghost use Rattle.lab_report.specs.Valid.{IsHead, IsValid, match_names};
+ghost use Rattle.report_making.specs.Made.{AreResults, ShowsNames, moved_match, moved_matches, names_in_order, noise_of, noises_in_order, places_in, tournament_report_of};
 
-use history_model::{Game, Name, NoMemory, Noise};
-use lab_report::{Body, Names, Noises, Places, Report, names_grow, place_in};
+use history_model::{Name, NoMemory, Noise};
+use lab_report::{Body, Head, Names, Noises, Places, Report, names_grow, place_in};
 use result_lines::{EntryLine, EntryLines, MatchLine, MatchLines, Totals};
 use std::alloc::Global;
 
@@ -101,42 +102,96 @@ fn copied(alloc: Global, entries: &EntryLines) -> Result<EntryLines, NoMemory>
     Ok(EntryLines::from_vec(items))
 }
 
-/// The report of a tournament of 1 to 64 entries of these names, which differ: what `totals` says,
-/// whose places are those of the entries in `names`. In the report entries are places in its own
-/// names, which stand in the order in which the text first shows them.
+fn noise_of(names: &[Name], noises: &[Noise], name: &Name) -> Noise
+    requires few { length names.now ≤ 64 }
+    requires inside { place_in names.now name.now < length noises.now }
+    ensures noise { result ≡ noise_of names.now noises.now name.now }
+    ensures rate { IsFlipRate result }
+{
+    let noise = noises[place_in(names, name) as usize];
+    // It is in range by its type.
+    let _denominator = noise.denominator();
+    noise
+}
+
+// The noise of each name in the order in which the report shows them.
+fn moved_noises(
+    alloc: Global,
+    names: &[Name],
+    noises: &[Noise],
+    order: &Names,
+) -> Result<Noises, NoMemory>
+    requires few { length names.now ≤ 64 }
+    requires inside { All (λ name. place_in names.now name < length noises.now) order.now }
+    ensures noises { IfOk result (λ moved. moved ≡ map (noise_of names.now noises.now) order.now) }
+    ensures are_noises { IfOk result (λ moved. All IsFlipRate moved) }
+{
+    let mut moved = Vec::new(alloc);
+    for name in order.as_slice() {
+        moved.push(noise_of(names, noises, name))?;
+    }
+    Ok(Noises::from_vec(moved))
+}
+
+// The same in version 2, and none in version 1.
+fn noises_in_order(
+    alloc: Global,
+    version: u32,
+    names: &[Name],
+    noises: &[Noise],
+    order: &Names,
+) -> Result<Noises, NoMemory>
+    requires few { length names.now ≤ 64 }
+    requires inside { All (λ name. place_in names.now name < length noises.now) order.now }
+    ensures noises { IfOk result (λ moved. moved ≡ noises_in_order version names.now noises.now order.now) }
+    ensures are_noises { IfOk result (λ moved. All IsFlipRate moved) }
+{
+    if version == 1 {
+        return Ok(Noises::from_vec(Vec::new(alloc)));
+    }
+    moved_noises(alloc, names, noises, order)
+}
+
+/// The report of a tournament of 1 to 64 entries of these names, which differ, and of these noises:
+/// what `totals` says, whose places are those of the entries in `names`. In the report entries are
+/// places in its own names, which stand in the order in which the text first shows them. In version 2
+/// it shows the noise of each name.
 ///
 /// # Errors
 ///
 /// `NoMemory` alone.
 pub fn tournament_report(
     alloc: Global,
-    game: &Game,
-    noise: &Noise,
+    head: &Head,
     names: &[Name],
+    noises: &[Noise],
     totals: &Totals,
 ) -> Result<Report, NoMemory>
+    requires head { IsHead head.now }
     requires some_names { 1 ≤ length names.now }
     requires few_names { length names.now ≤ 64 }
     requires different { AllPairs (λ a b. a ≢ b) names.now }
-    requires results { AreResults (length names.now) game.now totals.now }
-    ensures report { IfOk result (λ report. report ≡ tournament_report_of game.now noise.now names.now totals.now) }
+    requires as_many { length noises.now ≡ length names.now }
+    requires results { AreResults (length names.now) head.now totals.now }
+    ensures report { IfOk result (λ report. report ≡ tournament_report_of head.now names.now noises.now totals.now) }
     ensures valid { IfOk result IsValid }
     ensures shows { IfOk result (λ _. ShowsNames names.now totals.now) }
 {
     names_grow();
     // The parts are in range by their types.
-    let _ranges = (game.unsigned(), noise.denominator());
+    let _ranges = (head.game.unsigned(), head.noise.denominator());
     let matches = totals.matches.as_slice();
     let order = names_in_order(alloc, names, matches)?;
+    let own = noises_in_order(alloc, head.version, names, noises, &order)?;
     let moved = moved_matches(alloc, names, &order, matches)?;
     let who = places_in(alloc, &order, names)?;
     let entries = copied(alloc, &totals.entries)?;
     Ok(Report {
-        version: 1,
-        offset: 0,
-        game: *game,
-        noise: *noise,
-        noises: Noises::from_vec(Vec::new(alloc)),
+        version: head.version,
+        offset: head.offset,
+        game: head.game,
+        noise: head.noise,
+        noises: own,
         names: order,
         body: Body::Tournament {
             matches: moved,
