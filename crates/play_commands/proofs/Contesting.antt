@@ -116,19 +116,16 @@ few_turns_of players on_the_right fits entrants turns pairs others same few =
     let P : List (ℕ × ℕ) → Type 0 = λ ps. All (IsShortPair players entrants turns) ps in
     subst P (sym same) few
 
--- what is told of the results, with the lab's own game and pairs
-pub lines_of : (players on_the_right : List Lasting) → SidesFit players on_the_right → (entrants : List Entrant) (game read : Payoffs) (turns : ℕ) (pairs others : List (ℕ × ℕ)) (lines : List MatchLine)
-    → read ≡ game → pairs ≡ others → AreRightLines players read 0 turns entrants pairs lines → AreRightLines players game 0 turns entrants others lines
-lines_of players on_the_right fits entrants game read turns pairs others lines of_lab same made =
-    let P : List (ℕ × ℕ) → Type 0 = λ ps. AreRightLines players game 0 turns entrants ps lines in
-    let Q : Payoffs → Type 0 = λ g. AreRightLines players g 0 turns entrants pairs lines in
-    subst P same (subst Q of_lab made)
+-- what is told of the results, with the lab's own game, offset and pairs
+module _ (players on_the_right : List Lasting) (fits : SidesFit players on_the_right) (entrants : List Entrant) (game read : Payoffs) (offset by turns : ℕ) (pairs others : List (ℕ × ℕ))
+    (of_lab : read ≡ game) (less : by ≡ offset) (same : pairs ≡ others) where
+  pub lines_of : (lines : List MatchLine) → AreRightLines players read by turns entrants pairs lines → AreRightLines players game offset turns entrants others lines
+  lines_of lines made =
+      let P : Payoffs → ℕ → List (ℕ × ℕ) → Type 0 = λ g o ps. AreRightLines players g o turns entrants ps lines in
+      subst (P game offset) same (subst (λ o. P game o pairs) less (subst (λ g. P g by pairs) of_lab made))
 
-pub entries_of_lab : (players on_the_right : List Lasting) → SidesFit players on_the_right → (entrants : List Entrant) (game read : Payoffs) (turns count : ℕ) (pairs others : List (ℕ × ℕ)) (entries : List EntryLine)
-    → read ≡ game → pairs ≡ others → length entrants ≡ count → AreRightEntries (totals_by_rule players read 0 turns entrants pairs) (length entrants) entries
-    → AreRightEntries (totals_by_rule players game 0 turns entrants others) count entries
-entries_of_lab players on_the_right fits entrants game read turns count pairs others entries of_lab same many made =
-    let P : List (ℕ × ℕ) → Type 0 = λ ps. AreRightEntries (totals_by_rule players game 0 turns entrants ps) count entries in
-    let Q : Payoffs → Type 0 = λ g. AreRightEntries (totals_by_rule players g 0 turns entrants pairs) count entries in
-    let R : ℕ → Type 0 = λ n. AreRightEntries (totals_by_rule players read 0 turns entrants pairs) n entries in
-    subst P same (subst Q of_lab (subst R many made))
+  pub entries_of_lab : (count : ℕ) (entries : List EntryLine) → length entrants ≡ count → AreRightEntries (totals_by_rule players read by turns entrants pairs) (length entrants) entries
+      → AreRightEntries (totals_by_rule players game offset turns entrants others) count entries
+  entries_of_lab count entries many made =
+      let P : Payoffs → ℕ → List (ℕ × ℕ) → ℕ → Type 0 = λ g o ps n. AreRightEntries (totals_by_rule players g o turns entrants ps) n entries in
+      subst (λ ps. P game offset ps count) same (subst (λ o. P game o pairs count) less (subst (λ g. P g by pairs count) of_lab (subst (P read by pairs) many made)))

@@ -4,6 +4,7 @@ pub mod DrillReports
 pub mod Drilling
 pub mod Drills
 pub mod Entries
+pub mod Noises
 pub mod Points
 pub mod Reports
 pub mod Sparing

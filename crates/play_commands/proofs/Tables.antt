@@ -22,10 +22,12 @@ use Rattle.lab_file.specs.declared.lab.Entry.{Entry}
 use Rattle.job_tables.specs.declared.tournament.TournamentJob.{TournamentJob}
 use Rattle.lab_file.specs.Lab.{LabData, entry_at, no_entry}
 use Rattle.job_tables.specs.Tournament.{tournament_pairs}
-use Rattle.play_commands.specs.Contestants.{AreFirst}
+use Rattle.play_commands.specs.Contestants.{AreFirst, noises_of}
+use Rattle.play_commands.specs.RightLine.{head_of_lab}
 use Rattle.lab_file.specs.Lab.{names_of}
 use Rattle.play_commands.specs.RightTournament.{AreEntrants, IsRightPair, IsRightTournament, IsAskedTournament}
 use Rattle.play_commands.proofs.Contesting.{are_entrants}
+use Rattle.play_commands.proofs.Noises.{table_noises}
 use Rattle.play_commands.proofs.Reports.{placed}
 
 name_there : (entries : List Entry) (place : ℕ) → place < length entries → name_at (names_of entries) place ≡ (entry_at entries place).name
@@ -45,31 +47,31 @@ rest_same x y xs ys e = cc
 
 -- the lines with their places in the report
 lines_there : (players : List Lasting) (lab : LabData) (entrants : List Entrant) → AreEntrants lab entrants → (turns : ℕ) (order : List (List ℕ)) (lines : List MatchLine)
-    → All (IsRightAmong players lab.game 0 turns entrants) lines
+    → All (IsRightAmong players lab.game lab.offset turns entrants) lines
     → map (shown_match order) (moved_matches (names_of lab.entries) order lines) ≡ map (shown_match (names_of lab.entries)) lines
     → AllZip (IsRightPair players lab entrants turns order) (moved_matches (names_of lab.entries) order lines) (pairs_of lines)
 lines_there players lab entrants of turns order [] are shows = tt
 lines_there players lab entrants of turns order (line ∷ lines) are shows =
     let names = names_of lab.entries in
-    let is = All-head (IsRightAmong players lab.game 0 turns entrants) line lines are in
+    let is = All-head (IsRightAmong players lab.game lab.offset turns entrants) line lines are in
     let shown = first_same (shown_match order (moved_match names order line)) (shown_match names line)
     (map (shown_match order) (moved_matches names order lines)) (map (shown_match names) lines) shows in (
       record {
         left_name = same_left _ _ shown ∙ name_there lab.entries line.left (omega (arith, is.pair.ordered, is.pair.inside, of.count));
         right_name = same_right _ _ shown ∙ name_there lab.entries line.right (omega (arith, is.pair.inside, of.count));
         turns_are = is.turns_are;
-        score = placed players lab.game 0 (entrant_at entrants line.left) (entrant_at entrants line.right) line _ _ line.tally is.score;
+        score = placed players lab.game lab.offset (entrant_at entrants line.left) (entrant_at entrants line.right) line _ _ line.tally is.score;
       },
-      lines_there players lab entrants of turns order lines (All-tail (IsRightAmong players lab.game 0 turns entrants) line lines are)
+      lines_there players lab entrants of turns order lines (All-tail (IsRightAmong players lab.game lab.offset turns entrants) line lines are)
           (rest_same (shown_match order (moved_match names order line)) (shown_match names line)
           (map (shown_match order) (moved_matches names order lines)) (map (shown_match names) lines) shows),
     )
 
 pub right_table : {E : Type 0} (players on_the_right : List Lasting) → SidesFit players on_the_right → (lab : LabData) (contestants : List Contestant) → AreFirst lab (length lab.entries) contestants
     → (job : TournamentJob) (results : Totals) (made_report : Result Report E) → lab.jobs.tournament_job ≡ Some job
-    → AreRightLines players lab.game 0 job.turns (entrants_of contestants) (tournament_pairs job (length lab.entries)) results.matches
-    → AreRightEntries (totals_by_rule players lab.game 0 job.turns (entrants_of contestants) (tournament_pairs job (length lab.entries))) (length lab.entries) results.entries
-    → IfOk made_report (λ report. report ≡ tournament_report_of lab.game lab.noise (names_of lab.entries) results)
+    → AreRightLines players lab.game lab.offset job.turns (entrants_of contestants) (tournament_pairs job (length lab.entries)) results.matches
+    → AreRightEntries (totals_by_rule players lab.game lab.offset job.turns (entrants_of contestants) (tournament_pairs job (length lab.entries))) (length lab.entries) results.entries
+    → IfOk made_report (λ report. report ≡ tournament_report_of (head_of_lab lab) (names_of lab.entries) (noises_of lab.entries) results)
     → IfOk made_report IsValid → IfOk made_report (λ _. ShowsNames (names_of lab.entries) results)
     → IfOk made_report (λ report. IsRightTournament players lab (report_text report))
 right_table players on_the_right fits lab contestants first job results (Ok report) job_is lines entries made_is valid shows =
@@ -78,10 +80,10 @@ right_table players on_the_right fits lab contestants first job results (Ok repo
     let of = are_entrants lab contestants first in
     let pairs = tournament_pairs job (length lab.entries) in
     let order = names_in_order names results.matches in
-    let table = tournament_report_of lab.game lab.noise names results in
+    let table = tournament_report_of (head_of_lab lab) names (noises_of lab.entries) results in
     let valid_so : IsValid table = rw made_is at valid in
     let T : List (ℕ × ℕ) → Type 0 = λ ps. AllZip (IsRightPair players lab entrants job.turns order) (moved_matches names order results.matches) ps in
-    let R : ℕ → Type 0 = λ n. AreRightEntries (true_totals (expects_at players lab.game 0 job.turns entrants) pairs n) (length lab.entries) results.entries in
+    let R : ℕ → Type 0 = λ n. AreRightEntries (true_totals (expects_at players lab.game lab.offset job.turns entrants) pairs n) (length lab.entries) results.entries in
     let here : IsRightTournament players lab (report_text table) = record {
       job = job;
       job_is = job_is;
@@ -90,7 +92,7 @@ right_table players on_the_right fits lab contestants first job results (Ok repo
       report = table;
       valid = valid_so;
       text = refl;
-      of_lab = record { version = refl; game = refl; noise = refl };
+      of_lab = record { version = refl; offset = refl; game = refl; noise = refl; noises = table_noises lab order };
       matches = moved_matches names order results.matches;
       who = places_in order names;
       entries = results.entries;

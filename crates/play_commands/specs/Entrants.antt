@@ -8,7 +8,3 @@ use Rattle.lab_file.specs.Lab.{LabData, entry_at}
 pub record IsEntrant (lab : LabData) (place : ℕ) (entrant : Entrant) : Type 0 where
   pub sheet : (entry_at lab.entries place).draft ≡ Ready entrant.sheet
   pub noise : (entry_at lab.entries place).noise ≡ entrant.noise
-
--- the offset of a lab: labs of version 1 have none
-abbrev pub offset_of : LabData → ℕ
-offset_of lab = 0

@@ -19,7 +19,7 @@ use Rattle.job_tables.specs.declared.tournament.TournamentJob.{TournamentJob}
 use Rattle.lab_file.specs.Lab.{LabData, entry_at}
 use Rattle.job_tables.specs.Tournament.{tournament_pairs}
 use Rattle.lab_file.specs.Lab.{names_of}
-use Rattle.play_commands.specs.Entrants.{IsEntrant, offset_of}
+use Rattle.play_commands.specs.Entrants.{IsEntrant}
 use Rattle.play_commands.specs.RightLine.{IsOfLab}
 
 -- the entries of the lab, in file order
@@ -32,7 +32,7 @@ pub record IsRightPair (players : List Lasting) (lab : LabData) (entrants : List
   pub left_name : name_at names line.left ≡ (entry_at lab.entries pair.0).name
   pub right_name : name_at names line.right ≡ (entry_at lab.entries pair.1).name
   pub turns_are : line.turns ≡ turns
-  pub score : IsRightLine players lab.game (offset_of lab) (entrant_at entrants pair.0) (entrant_at entrants pair.1) line
+  pub score : IsRightLine players lab.game lab.offset (entrant_at entrants pair.0) (entrant_at entrants pair.1) line
 
 -- the bytes are the text of a valid report of the lab's tournament: a right line for each pair that is played, in ascending order, and
 -- a right line for each entry, in file order. That totals are sums of the spans above them, that ranks, wins and undecided matches are
@@ -53,7 +53,7 @@ pub record IsRightTournament (players : List Lasting) (lab : LabData) (bytes : L
   pub match_lines : AllZip (IsRightPair players lab entrants job.turns report.names) matches (tournament_pairs job (length lab.entries))
   pub entry_names : map (name_at report.names) who ≡ names_of lab.entries
   pub entry_lines : (place : ℕ) (none : EntryLine) → place < length lab.entries →
-      IsRightEntry (true_totals (expects_at players lab.game (offset_of lab) job.turns entrants) (tournament_pairs job (length lab.entries)) (length lab.entries))
+      IsRightEntry (true_totals (expects_at players lab.game lab.offset job.turns entrants) (tournament_pairs job (length lab.entries)) (length lab.entries))
       place (slice_index_or entries place none)
 
 -- the players of the lab's tournament were asked, for each of its matches

@@ -70,7 +70,7 @@ fn results(alloc: Global, sheets: &[Sheet], bench: &mut Bench) -> Result<Totals,
     };
     let contestants = contestants(alloc, sheets, &noise)?;
     let pairs = job.pairs(alloc, sheets.len() as u32)?;
-    let results = entry_totals(alloc, bench, &contestants, &pairs, &game, job.turns)?;
+    let results = entry_totals(alloc, bench, &contestants, &pairs, &game, 0, job.turns)?;
     Ok(results)
 }
 

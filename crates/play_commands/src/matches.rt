@@ -13,14 +13,14 @@ ghost use Rattle.lab_file.specs.Notes.{AreNoted};
 ghost use Rattle.lab_file.specs.Limits.{match_limits, limits_of};
 ghost use Rattle.play_commands.specs.Contestants.{IsContestantOf};
 ghost use Rattle.play_commands.specs.MayAsk.{MayAskBetween, MayAskMatch, UpTo};
-ghost use Rattle.play_commands.specs.RightLine.{IsAskedBetween, IsRightBetween};
+ghost use Rattle.play_commands.specs.RightLine.{IsAskedBetween, IsRightBetween, head_of_lab};
 ghost use Rattle.play_commands.specs.RightMatch.{IsAskedMatch, IsRightMatch};
 ghost use Rattle.play_commands.specs.Ready.{IsReadyEntry};
 
 use history_model::NoMemory;
 use lab_file::laws::notes_tell;
 use lab_file::{Lab, MatchJob};
-use lab_report::Report;
+use lab_report::{Head, Report};
 use match_play::MatchLine;
 use player_core::{Bench, Player, Seen};
 use report_making::match_report;
@@ -47,6 +47,18 @@ pub(crate) fn contestant(lab: &Lab, place: u32) -> Contestant<'_>
     }
 }
 
+/// What a report tells of the lab.
+pub(crate) fn head(lab: &Lab) -> Head
+    ensures head { result ≡ head_of_lab lab.now }
+{
+    Head {
+        version: lab.version,
+        offset: lab.offset,
+        game: lab.game,
+        noise: lab.noise,
+    }
+}
+
 // The line of the lab's match, for which the bench's players are asked.
 fn job_line(
     alloc: Global,
@@ -60,15 +72,18 @@ fn job_line(
     requires ready { All IsReadyEntry lab.now.entries }
     requires noted { AreNoted (notes_of (players_of (⟦<Bench as Seen>⟧.view bench.old))) lab.now.entries }
     ensures right { IfOk result (IsRightBetween (players_of (⟦<Bench as Seen>⟧.view bench.old)) lab.now job.now.left job.now.right job.now.turns) }
-    ensures showable { IfOk result (IsShowable lab.now.game) }
+    ensures showable { IfOk result (IsShowable (head_of_lab lab.now)) }
     ensures most { UpTo (⟦<Bench as Seen>⟧.view bench.old) (⟦<Bench as Seen>⟧.view bench.new) (MayAskBetween (⟦<Bench as Seen>⟧.view bench.old) (⟦<Bench as Seen>⟧.view bench.new) lab.now job.now.left job.now.right) }
     ensures asked { IfOk result (λ _. IsAskedBetween (⟦<Bench as Seen>⟧.view bench.old) (⟦<Bench as Seen>⟧.view bench.new) lab.now job.now.left job.now.right job.now.turns) }
     ensures kept { KeepsBench (⟦<Bench as Seen>⟧.view bench.old) (⟦<Bench as Seen>⟧.view bench.new) }
 {
     notes_tell();
+    lab.shape();
     let left = contestant(lab, job.left);
     let right = contestant(lab, job.right);
-    entry_line(alloc, bench, &left, &right, &lab.game, job.turns)
+    entry_line(
+        alloc, bench, &left, &right, &lab.game, lab.offset, job.turns,
+    )
 }
 
 // The report of the lab's match with this line.
@@ -79,13 +94,23 @@ fn line_report(
     line: &MatchLine,
 ) -> Result<Report, NoMemory>
     requires sound { IsMatchJob (length lab.now.entries) job.now }
-    requires showable { IsShowable lab.now.game line.now }
-    ensures report { IfOk result (λ report. report ≡ match_report_of lab.now.game lab.now.noise (entry_at lab.now.entries job.now.left).name (entry_at lab.now.entries job.now.right).name line.now) }
+    requires showable { IsShowable (head_of_lab lab.now) line.now }
+    ensures report { IfOk result (λ report. report ≡ match_report_of (head_of_lab lab.now) (entry_at lab.now.entries job.now.left).name (entry_at lab.now.entries job.now.right).name (entry_at lab.now.entries job.now.left).noise (entry_at lab.now.entries job.now.right).noise line.now) }
     ensures valid { IfOk result IsValid }
 {
-    let left = &lab.entries.at(job.left as usize).name;
-    let right = &lab.entries.at(job.right as usize).name;
-    match_report(alloc, &lab.game, &lab.noise, left, right, line)
+    lab.shape();
+    let head = head(lab);
+    let left = lab.entries.at(job.left as usize);
+    let right = lab.entries.at(job.right as usize);
+    match_report(
+        alloc,
+        &head,
+        &left.name,
+        &right.name,
+        &left.noise,
+        &right.noise,
+        line,
+    )
 }
 
 /// The report of the lab's match, which the bench's players are asked for.

@@ -13,14 +13,15 @@ ghost use Rattle.job_tables.specs.Jobs.{IsTournamentJob};
 ghost use Rattle.lab_file.specs.Notes.{AreNoted};
 ghost use Rattle.lab_file.specs.Limits.{tournament_limits, limits_of};
 ghost use Rattle.job_tables.specs.Tournament.{tournament_pairs};
-ghost use Rattle.play_commands.specs.Contestants.{AreFirst};
+ghost use Rattle.play_commands.specs.Contestants.{AreFirst, noises_of};
+ghost use Rattle.play_commands.specs.RightLine.{head_of_lab};
 ghost use Rattle.lab_file.specs.Lab.{names_of};
 ghost use Rattle.play_commands.specs.MayAsk.{MayAskTournament, UpTo};
 ghost use Rattle.play_commands.specs.RightTournament.{IsAskedTournament, IsRightTournament};
 ghost use Rattle.play_commands.specs.Ready.{IsReadyEntry};
 
-use crate::matches::contestant;
-use history_model::{Name, NoMemory};
+use crate::matches::{contestant, head};
+use history_model::{Name, NoMemory, Noise};
 use lab_file::laws::{matches_are_kept, notes_tell, tournaments_ascend};
 use lab_file::{Lab, TournamentJob};
 use lab_report::Report;
@@ -52,6 +53,17 @@ fn names(alloc: Global, lab: &Lab) -> Result<Vec<Name>, NoMemory>
     Ok(names)
 }
 
+// The noises of all entries, in file order.
+fn noises(alloc: Global, lab: &Lab) -> Result<Vec<Noise>, NoMemory>
+    ensures { IfOk result (λ noises. noises.items ≡ noises_of lab.now.entries) }
+{
+    let mut noises = Vec::new(alloc);
+    for entry in lab.entries.as_slice() {
+        noises.push(entry.noise)?;
+    }
+    Ok(noises)
+}
+
 // What the matches of the lab's tournament come to, for which the bench's players are asked.
 fn results(
     alloc: Global,
@@ -65,9 +77,9 @@ fn results(
     requires limits { tournament_limits (notes_of (players_of (⟦<Bench as Seen>⟧.view bench.old))) lab.now.entries job.now ≡ Ok tt }
     requires noted { AreNoted (notes_of (players_of (⟦<Bench as Seen>⟧.view bench.old))) lab.now.entries }
     requires contestants { AreFirst lab.now (length lab.now.entries) contestants.now }
-    ensures lines { IfOk result (λ totals. AreRightLines (players_of (⟦<Bench as Seen>⟧.view bench.old)) lab.now.game 0 job.now.turns (entrants_of contestants.now) (tournament_pairs job.now (length lab.now.entries)) totals.matches) }
-    ensures entries { IfOk result (λ totals. AreRightEntries (totals_by_rule (players_of (⟦<Bench as Seen>⟧.view bench.old)) lab.now.game 0 job.now.turns (entrants_of contestants.now) (tournament_pairs job.now (length lab.now.entries))) (length lab.now.entries) totals.entries) }
-    ensures showable { IfOk result (AreResults (length lab.now.entries) lab.now.game) }
+    ensures lines { IfOk result (λ totals. AreRightLines (players_of (⟦<Bench as Seen>⟧.view bench.old)) lab.now.game lab.now.offset job.now.turns (entrants_of contestants.now) (tournament_pairs job.now (length lab.now.entries)) totals.matches) }
+    ensures entries { IfOk result (λ totals. AreRightEntries (totals_by_rule (players_of (⟦<Bench as Seen>⟧.view bench.old)) lab.now.game lab.now.offset job.now.turns (entrants_of contestants.now) (tournament_pairs job.now (length lab.now.entries))) (length lab.now.entries) totals.entries) }
+    ensures showable { IfOk result (AreResults (length lab.now.entries) (head_of_lab lab.now)) }
     ensures most { UpTo (⟦<Bench as Seen>⟧.view bench.old) (⟦<Bench as Seen>⟧.view bench.new) (EntriesAtMostOn (⟦<Bench as Seen>⟧.view bench.old) (⟦<Bench as Seen>⟧.view bench.new) (entrants_of contestants.now) (tournament_pairs job.now (length lab.now.entries))) }
     ensures asked { IfOk result (λ _. EntriesAskedOn (⟦<Bench as Seen>⟧.view bench.old) (⟦<Bench as Seen>⟧.view bench.new) (entrants_of contestants.now) job.now.turns (tournament_pairs job.now (length lab.now.entries))) }
     ensures kept { KeepsBench (⟦<Bench as Seen>⟧.view bench.old) (⟦<Bench as Seen>⟧.view bench.new) }
@@ -77,20 +89,30 @@ fn results(
     matches_are_kept();
     lab.shape();
     let pairs = job.pairs(alloc, lab.entries.len() as u32)?;
-    let results = entry_totals(alloc, bench, contestants, &pairs, &lab.game, job.turns)?;
+    let results = entry_totals(
+        alloc,
+        bench,
+        contestants,
+        &pairs,
+        &lab.game,
+        lab.offset,
+        job.turns,
+    )?;
     Ok(results)
 }
 
 // The report of the lab's tournament with these results.
 fn table_report(alloc: Global, lab: &Lab, results: &Totals) -> Result<Report, NoMemory>
-    requires showable { AreResults (length lab.now.entries) lab.now.game results.now }
-    ensures report { IfOk result (λ report. report ≡ tournament_report_of lab.now.game lab.now.noise (names_of lab.now.entries) results.now) }
+    requires showable { AreResults (length lab.now.entries) (head_of_lab lab.now) results.now }
+    ensures report { IfOk result (λ report. report ≡ tournament_report_of (head_of_lab lab.now) (names_of lab.now.entries) (noises_of lab.now.entries) results.now) }
     ensures valid { IfOk result IsValid }
     ensures shows { IfOk result (λ _. ShowsNames (names_of lab.now.entries) results.now) }
 {
     lab.shape();
+    let head = head(lab);
     let names = names(alloc, lab)?;
-    let report = tournament_report(alloc, &lab.game, &lab.noise, &names, results)?;
+    let noises = noises(alloc, lab)?;
+    let report = tournament_report(alloc, &head, &names, &noises, results)?;
     Ok(report)
 }
 

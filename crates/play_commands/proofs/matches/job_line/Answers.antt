@@ -24,12 +24,12 @@ entry_line-requires-clause-few_turns g c =
 pub returns-clause-right : goal.returns-clause-right
 returns-clause-right g c =
     right_between _ _ c.requires.fits c.args.lab.now c.args.job.now.left c.args.job.now.right c.args.job.now.turns (entrant_of c.contestant-left.result) (entrant_of c.contestant-right.result)
-    _ c.entry_line.result (ap (λ (l : LabData). l.game) c.lab.view_is) c.contestant-left.ensures.is c.contestant-right.ensures.is c.entry_line.ensures.turns c.entry_line.ensures.right
+    _ _ c.entry_line.result (ap (λ (l : LabData). l.game) c.lab.view_is) (ap (λ (l : LabData). l.offset) c.lab.view_is) c.contestant-left.ensures.is c.contestant-right.ensures.is c.entry_line.ensures.turns c.entry_line.ensures.right
 
 pub returns-clause-showable : goal.returns-clause-showable
 returns-clause-showable g c =
-    line_showable _ _ c.requires.fits c.args.lab.now.game _ (entrant_of c.contestant-left.result) (entrant_of c.contestant-right.result) c.args.job.now.turns c.entry_line.result
-    (ap (λ (l : LabData). l.game) c.lab.view_is) c.requires.sound.some_turns c.requires.sound.few_turns c.entry_line.ensures.turns c.entry_line.ensures.range c.entry_line.ensures.right
+    line_showable _ _ c.requires.fits c.args.lab.now c.shape.ensures _ _ (entrant_of c.contestant-left.result) (entrant_of c.contestant-right.result) c.args.job.now.turns c.entry_line.result
+    (ap (λ (l : LabData). l.game) c.lab.view_is) (ap (λ (l : LabData). l.offset) c.lab.view_is) c.requires.sound.some_turns c.requires.sound.few_turns c.entry_line.ensures.turns c.entry_line.ensures.range c.entry_line.ensures.right
 
 pub returns-clause-most : goal.returns-clause-most
 returns-clause-most g c =

@@ -25,19 +25,19 @@ entry_totals-requires-clause-few_turns g c =
 
 pub returns-clause-lines : goal.returns-clause-lines
 returns-clause-lines g c =
-    lines_of _ _ c.requires.fits (entrants_of c.args.contestants.now) c.args.lab.now.game _ c.args.job.now.turns c.deref.result.now _ c.in_ok-results.results.matches
-    (ap (λ (l : LabData). l.game) c.lab.view_is) (c.deref.ensures.value ∙ c.in_ok-pairs.ensures.pairs ∙ ap (tournament_pairs c.args.job.now) (c.len.ensures ∙ ap (λ (l : LabData). length l.entries) c.lab.view_is)) c.in_ok-results.ensures.lines_right
+    lines_of _ _ c.requires.fits (entrants_of c.args.contestants.now) c.args.lab.now.game _ c.args.lab.now.offset _ c.args.job.now.turns c.deref.result.now _
+    (ap (λ (l : LabData). l.game) c.lab.view_is) (ap (λ (l : LabData). l.offset) c.lab.view_is) (c.deref.ensures.value ∙ c.in_ok-pairs.ensures.pairs ∙ ap (tournament_pairs c.args.job.now) (c.len.ensures ∙ ap (λ (l : LabData). length l.entries) c.lab.view_is)) c.in_ok-results.results.matches c.in_ok-results.ensures.lines_right
 
 pub returns-clause-entries : goal.returns-clause-entries
 returns-clause-entries g c =
-    entries_of_lab _ _ c.requires.fits (entrants_of c.args.contestants.now) c.args.lab.now.game _ c.args.job.now.turns _ c.deref.result.now _ c.in_ok-results.results.entries
-    (ap (λ (l : LabData). l.game) c.lab.view_is) (c.deref.ensures.value ∙ c.in_ok-pairs.ensures.pairs ∙ ap (tournament_pairs c.args.job.now) (c.len.ensures ∙ ap (λ (l : LabData). length l.entries) c.lab.view_is)) (are_entrants c.args.lab.now c.args.contestants.now c.requires.contestants).count c.in_ok-results.ensures.entries_right
+    entries_of_lab _ _ c.requires.fits (entrants_of c.args.contestants.now) c.args.lab.now.game _ c.args.lab.now.offset _ c.args.job.now.turns c.deref.result.now _
+    (ap (λ (l : LabData). l.game) c.lab.view_is) (ap (λ (l : LabData). l.offset) c.lab.view_is) (c.deref.ensures.value ∙ c.in_ok-pairs.ensures.pairs ∙ ap (tournament_pairs c.args.job.now) (c.len.ensures ∙ ap (λ (l : LabData). length l.entries) c.lab.view_is)) _ c.in_ok-results.results.entries (are_entrants c.args.lab.now c.args.contestants.now c.requires.contestants).count c.in_ok-results.ensures.entries_right
 
 pub returns-clause-showable : goal.returns-clause-showable
 returns-clause-showable g c =
-    results_shown _ _ c.requires.fits (entrants_of c.args.contestants.now) c.args.lab.now.game _ c.args.job.now.turns (length c.args.lab.now.entries) c.deref.result.now
+    results_shown _ _ c.requires.fits c.args.lab.now c.shape.ensures (entrants_of c.args.contestants.now) _ _ c.args.job.now.turns (length c.args.lab.now.entries) c.deref.result.now
     (tournament_pairs c.args.job.now (length c.args.lab.now.entries)) c.in_ok-results.results
-    (ap (λ (l : LabData). l.game) c.lab.view_is) c.requires.sound.some_turns c.requires.sound.few_turns c.shape.ensures.entries.few (are_entrants c.args.lab.now c.args.contestants.now c.requires.contestants).count
+    (ap (λ (l : LabData). l.game) c.lab.view_is) (ap (λ (l : LabData). l.offset) c.lab.view_is) c.requires.sound.some_turns c.requires.sound.few_turns c.shape.ensures.entries.few (are_entrants c.args.lab.now c.args.contestants.now c.requires.contestants).count
     (c.tournaments_ascend.ensures c.args.job.now (length c.args.lab.now.entries)).few
     (c.deref.ensures.value ∙ c.in_ok-pairs.ensures.pairs ∙ ap (tournament_pairs c.args.job.now) (c.len.ensures ∙ ap (λ (l : LabData). length l.entries) c.lab.view_is)) c.in_ok-results.ensures.lines_right c.in_ok-results.ensures.range c.in_ok-results.ensures.entries
 
