@@ -8,7 +8,8 @@ ghost use Rattle.axlab_core.specs.Sent.{Stopped};
 
 use history_model::NoMemory;
 use lab_ports::{Sink, SinkFailed, growth_adds_up, send};
-use lab_report::{Pieces, Report};
+use lab_report::Report;
+use report_writing::Pieces;
 use std::alloc::Global;
 
 /// Why a report isn't sent whole.

@@ -3,9 +3,7 @@ pub mod DrillLaws
 pub mod FollowLaws
 pub mod Loops
 pub mod MatchRuns
-pub mod Numbered
 pub mod OwnLaws
-pub mod Piecing
 pub mod Ranges
 pub mod RoomLaws
 pub mod SoFar

@@ -1,8 +1,6 @@
 pub mod DrillRules
 pub mod Grammar
 pub mod MatchRules
-pub mod OneWay
-pub mod Pieces
 pub mod Read
 pub mod Room
 pub mod TableRules

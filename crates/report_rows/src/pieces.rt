@@ -1,7 +1,8 @@
 //! Texts in pieces.
 ghost use Rattle.lab_report.specs.Valid.{IsValid};
 
-use lab_report::{Pieces, Report};
+use lab_report::Report;
+use report_writing::Pieces;
 use std::alloc::Global;
 use std::test::Fail;
 

@@ -1,5 +1,5 @@
 //! The lines of a tournament so far, for the small reader.
-use crate::reader::{Ends, Played, is_name, match_of, score, whole, winner};
+use crate::reader::{Ends, Lab, Owners, Played, is_name, match_of, score, whole, winner};
 use std::alloc::Global;
 use std::test::Fail;
 
@@ -59,14 +59,14 @@ fn is_open(found: &Played, name: &str) -> bool {
 }
 
 // What the line of an entry tells, where its counts and its total follow from the matches.
-fn entry_of<'a>(matches: &[Played], fields: &[&'a str]) -> Option<Told<'a>> {
+fn entry_of<'a>(lab: &Lab, matches: &[Played], fields: &[&'a str]) -> Option<Told<'a>> {
     let [head, name, total, rank_word, won, open] = fields else {
         return None;
     };
     let name: &'a str = *name;
     let found = Told {
         name,
-        total: score(*total, MOST_TOTAL)?,
+        total: score(*total, MOST_TOTAL, lab.version)?,
         rank: rank(*rank_word)?,
     };
     let won = whole(*won, MOST_COUNT)?;
@@ -116,17 +116,22 @@ impl<'a> Table<'a> {
     }
 
     /// Whether a line may stand behind the others, which it then does.
-    pub(crate) fn takes(&mut self, game: [u128; 4], fields: &[&'a str]) -> Result<bool, Fail> {
+    pub(crate) fn takes(
+        &mut self,
+        lab: &Lab,
+        owners: &mut Owners,
+        fields: &[&'a str],
+    ) -> Result<bool, Fail> {
         if self.entries.is_empty() {
-            if let Some(found) = match_of(game, fields) {
+            if let Some(found) = match_of(lab, fields) {
                 self.matches.push(found)?;
-                return Ok(true);
+                return Ok(owners.show(found.left) && owners.show(found.right));
             }
         }
-        let Some(found) = entry_of(&self.matches, fields) else {
+        let Some(found) = entry_of(lab, &self.matches, fields) else {
             return Ok(false);
         };
-        if self.has_line(found.name) {
+        if self.has_line(found.name) || !owners.show(found.name) {
             return Ok(false);
         }
         self.entries.push(found)?;

@@ -7,7 +7,7 @@ ghost use Rattle.report_making.specs.Made.{AreResults};
 use crate::shared::{changed, check_text};
 use fixed_span::Span;
 use history_model::{Game, Name, Noise};
-use lab_report::Report;
+use lab_report::{Head, Report};
 use report_making::tournament_report;
 use result_lines::{EntryLine, EntryLines, MatchLine, MatchLines, Rank, Totals};
 use std::alloc::Global;
@@ -36,7 +36,7 @@ fn entry_names() -> Result<[Name; 3], Fail>
 }
 
 fn totals(alloc: Global) -> Result<Totals, Fail>
-    ensures { IfOk result (AreResults 3 (record { r = 3; s = 0; t = 5; p = 1 })) }
+    ensures { IfOk result (AreResults 3 (record { version = 1; offset = 0; game = record { r = 3; s = 0; t = 5; p = 1 }; noise = record { n = 1; e = 100 } })) }
 {
     let greater = Span {
         lo: 500_000_000_000_001,
@@ -78,16 +78,21 @@ fn totals(alloc: Global) -> Result<Totals, Fail>
 fn made(alloc: Global) -> Result<Report, Fail>
     ensures { IfOk result IsValid }
 {
-    let game = Game {
-        r: 3,
-        s: 0,
-        t: 5,
-        p: 1,
+    let head = Head {
+        version: 1,
+        offset: 0,
+        game: Game {
+            r: 3,
+            s: 0,
+            t: 5,
+            p: 1,
+        },
+        noise: Noise { n: 1, e: 100 },
     };
-    let noise = Noise { n: 1, e: 100 };
+    let noises = [head.noise, head.noise, head.noise];
     let names = entry_names()?;
     let totals = totals(alloc)?;
-    Ok(tournament_report(alloc, &game, &noise, &names, &totals)?)
+    Ok(tournament_report(alloc, &head, &names, &noises, &totals)?)
 }
 
 #[test]
