@@ -1,8 +1,8 @@
 -- What the work of a command gives, and how it is sent.
 use Rattle.std.specs.Prelude.{◌≡◌, ℕ, List, take, Option, Result, Ok, Err}
 use Rattle.lab_ports.specs.Holding.{Grew, GrewByPart}
-use Rattle.lab_report.specs.Text.{report_text}
-use Rattle.lab_report.specs.Valid.{IsValid}
+use Rattle.report_rules.specs.Text.{report_text}
+use Rattle.report_rules.specs.Valid.{IsValid}
 use Rattle.axlab_core.specs.declared.output.Output.{Output}
 use Rattle.axlab_core.specs.declared.output.Output.TheVariants.{Report, Whole}
 use Rattle.axlab_core.specs.declared.output.Hindrance.{Hindrance}

@@ -2,14 +2,13 @@
 ghost use Rattle.std.specs.Prelude.{◌≡◌, OnOk, IfErr};
 ghost use Rattle.lab_ports.specs.Causes.{Rose};
 ghost use Rattle.lab_ports.specs.Holding.{Grew};
-ghost use Rattle.lab_report.specs.Text.{report_text};
-ghost use Rattle.lab_report.specs.Valid.{IsValid};
+ghost use Rattle.report_rules.specs.Text.{report_text};
+ghost use Rattle.report_rules.specs.Valid.{IsValid};
 ghost use Rattle.axlab_core.specs.Sent.{Stopped};
 
 use history_model::NoMemory;
 use lab_ports::{Sink, SinkFailed, growth_adds_up, send};
-use lab_report::Report;
-use report_writing::Pieces;
+use lab_report::{Pieces, Report};
 use std::alloc::Global;
 
 /// Why a report isn't sent whole.

@@ -1,14 +1,2 @@
-pub mod Answered
-pub mod DrillLaws
-pub mod FollowLaws
-pub mod Loops
-pub mod MatchRuns
-pub mod OwnLaws
-pub mod Ranges
-pub mod RoomLaws
-pub mod SoFar
-pub mod States
-pub mod Staying
-pub mod TableAdds
-pub mod TableLaws
-pub mod TableRuns
+pub mod Numbered
+pub mod Piecing

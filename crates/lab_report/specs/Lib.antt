@@ -1,8 +1,2 @@
-pub mod DrillRules
-pub mod Grammar
-pub mod MatchRules
-pub mod Read
-pub mod Room
-pub mod TableRules
-pub mod Text
-pub mod Valid
+pub mod OneWay
+pub mod Pieces

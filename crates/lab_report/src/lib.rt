@@ -1,17 +1,14 @@
-//! Reports, their texts, and the reader of these.
+//! Reports, and their texts both ways: read, written whole, and written piece by piece. What a report is,
+//! what makes it valid and how it is read stands in `report_rules`, whose types and calls this crate passes on.
 #![tactic(auto)]
 
-mod drill_rules;
-mod match_rules;
-mod own_rules;
-mod reading;
-mod report;
-mod rules;
-mod state;
-mod table;
-mod table_rules;
+mod lines;
+mod pieces;
+mod writing;
 
-pub use drill_rules::{drill_game, no_noise};
-pub use reading::{ReportError, one_report_a_text, read_report};
-pub use report::{Body, Head, Report};
-pub use report_names::{Leaders, Names, Noises, Places, names_grow, place_in};
+pub use pieces::Pieces;
+pub use report_rules::{
+    Body, Head, Leaders, Names, Noises, Places, Report, ReportError, drill_game, names_grow,
+    no_noise, one_report_a_text, place_in, read_report,
+};
+pub use writing::write_report;

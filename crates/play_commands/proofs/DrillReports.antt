@@ -13,10 +13,10 @@ use Rattle.fixed_span.specs.Span.{Fraction}
 use Rattle.result_lines.specs.declared.tables.EntryLine.{EntryLine}
 use Rattle.round_robin.specs.Asked.{AreAsked, bench_turns}
 use Rattle.round_robin.specs.Truth.{nothing, true_rank}
-use Rattle.lab_report.specs.declared.report.Report.{Report}
+use Rattle.report_rules.specs.declared.report.Report.{Report}
 use Rattle.report_names.specs.Names.{name_at}
-use Rattle.lab_report.specs.Text.{report_text}
-use Rattle.lab_report.specs.Valid.{IsFirstOf, IsTotal, IsValid, first_names}
+use Rattle.report_rules.specs.Text.{report_text}
+use Rattle.report_rules.specs.Valid.{IsFirstOf, IsTotal, IsValid, first_names}
 use Rattle.report_making.specs.Made.{ShowsFirst, drill_report_of, first_order, moved_first}
 use Rattle.drill.specs.Drill.{drill_name, drill_sheets}
 use Rattle.play_commands.specs.Machines.{IsSmallTotal, IsTold, IsWhole, drill_job, drill_pairs, first_of, first_places, is_first, line_at, machine_strategies, no_line, sum_of, sum_of_totals, total_at}

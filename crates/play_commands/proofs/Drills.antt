@@ -20,7 +20,7 @@ use Rattle.sheet_rules.specs.Entrants.{Entrant, entrant_at}
 use Rattle.round_robin.specs.Entries.{AreRightEntries, AreRightLines, totals_by_rule}
 use Rattle.round_robin.specs.Laws.{IsInRange}
 use Rattle.round_robin.specs.Truth.{SumsAreHeld, nothing, true_total, true_totals, true_rank}
-use Rattle.lab_report.specs.Valid.{drill_game}
+use Rattle.report_rules.specs.Valid.{drill_game}
 use Rattle.play_commands.specs.Machines.{AreMachines, IsSmallTotal, IsTold, IsWhole, drill_job, drill_pairs, first_of, first_places, is_first, line_at, machine_expects, machine_totals, no_line, still, sum_of, sum_of_totals, total_at}
 use Rattle.play_commands.proofs.Drilling.{as_drill, few_pairs, many, pair_sure}
 use Rattle.play_commands.proofs.Points.{ArePaid, IsPoint, played_points, rank_known, total_paid}

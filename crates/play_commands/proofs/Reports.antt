@@ -7,10 +7,10 @@ use Rattle.history_model.specs.Game.{Payoffs}
 use Rattle.player_core.specs.State.{Lasting}
 use Rattle.player_core.specs.Fits.{SidesFit}
 use Rattle.result_lines.specs.declared.line.MatchLine.{MatchLine}
-use Rattle.lab_report.specs.declared.report.Report.{Report}
+use Rattle.report_rules.specs.declared.report.Report.{Report}
 use Rattle.report_names.specs.Names.{name_at}
-use Rattle.lab_report.specs.Text.{report_text}
-use Rattle.lab_report.specs.Valid.{IsValid}
+use Rattle.report_rules.specs.Text.{report_text}
+use Rattle.report_rules.specs.Valid.{IsValid}
 use Rattle.report_making.specs.Made.{names_of_pair, match_report_of}
 use Rattle.job_tables.specs.declared.jobs.MatchJob.{MatchJob}
 use Rattle.job_tables.specs.Jobs.{IsMatchJob}

@@ -20,8 +20,8 @@ use Rattle.sheet_rules.specs.Entrants.{Entrant, entrant_at}
 use Rattle.sheet_rules.specs.RightLine.{IsRightLine, IsRightScore}
 use Rattle.round_robin.specs.Entries.{AreRightLines, IsInRangeLess, IsScoreLess}
 use Rattle.round_robin.specs.Laws.{IsInRange}
-use Rattle.lab_report.specs.declared.report.Head.{Head}
-use Rattle.lab_report.specs.Valid.{IsHead, IsScore, IsCounted, IsShowable}
+use Rattle.report_rules.specs.declared.report.Head.{Head}
+use Rattle.report_rules.specs.Valid.{IsHead, IsScore, IsCounted, IsShowable}
 use Rattle.report_making.specs.Made.{AreResults}
 use Rattle.lab_file.specs.Lab.{LabData, IsLab}
 use Rattle.play_commands.specs.RightLine.{head_of_lab}

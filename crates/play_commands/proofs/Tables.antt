@@ -13,10 +13,10 @@ use Rattle.sheet_rules.specs.declared.contestant.Contestant.{Contestant}
 use Rattle.sheet_rules.specs.Entrants.{Entrant, entrant_at, entrants_of, expects_at}
 use Rattle.round_robin.specs.Truth.{true_totals}
 use Rattle.round_robin.specs.Entries.{AreRightEntries, AreRightLines, EntriesAskedOn, IsRightAmong, totals_by_rule}
-use Rattle.lab_report.specs.declared.report.Report.{Report}
+use Rattle.report_rules.specs.declared.report.Report.{Report}
 use Rattle.report_names.specs.Names.{name_at}
-use Rattle.lab_report.specs.Text.{report_text, shown_match}
-use Rattle.lab_report.specs.Valid.{IsValid}
+use Rattle.report_rules.specs.Text.{report_text, shown_match}
+use Rattle.report_rules.specs.Valid.{IsValid}
 use Rattle.report_making.specs.Made.{ShowsNames, moved_match, moved_matches, names_in_order, places_in, tournament_report_of}
 use Rattle.lab_file.specs.declared.lab.Entry.{Entry}
 use Rattle.job_tables.specs.declared.tournament.TournamentJob.{TournamentJob}

@@ -13,7 +13,7 @@ use Rattle.result_lines.specs.declared.ranking.Rank.TheVariants.{At, Undecided}
 use Rattle.result_lines.specs.declared.tables.EntryLine.{EntryLine}
 use Rattle.round_robin.specs.Contest.{Strategy, entrant_strategies}
 use Rattle.round_robin.specs.Truth.{nothing, plus, true_totals, true_rank}
-use Rattle.lab_report.specs.Valid.{drill_game}
+use Rattle.report_rules.specs.Valid.{drill_game}
 use Rattle.job_tables.specs.declared.tournament.TournamentJob.{TournamentJob}
 use Rattle.job_tables.specs.Tournament.{tournament_pairs}
 

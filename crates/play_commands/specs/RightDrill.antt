@@ -5,11 +5,11 @@ use Rattle.player_core.specs.State.{BenchState, Lasting, players_of}
 use Rattle.fixed_span.specs.Span.{Fraction}
 use Rattle.round_robin.specs.Asked.{AreAsked, bench_turns}
 use Rattle.round_robin.specs.Truth.{nothing}
-use Rattle.lab_report.specs.declared.report.Body.TheVariants as bodies
-use Rattle.lab_report.specs.declared.report.Report.{Report}
+use Rattle.report_rules.specs.declared.report.Body.TheVariants as bodies
+use Rattle.report_rules.specs.declared.report.Report.{Report}
 use Rattle.report_names.specs.Names.{name_at}
-use Rattle.lab_report.specs.Text.{report_text}
-use Rattle.lab_report.specs.Valid.{IsValid}
+use Rattle.report_rules.specs.Text.{report_text}
+use Rattle.report_rules.specs.Valid.{IsValid}
 use Rattle.drill.specs.Drill.{drill_name, drill_sheets}
 use Rattle.play_commands.specs.Machines.{IsWhole, drill_job, drill_pairs, first_places, machine_strategies, machine_totals, sum_of}
 

@@ -4,8 +4,8 @@ use Rattle.history_model.specs.Noise.{FlipRate}
 use Rattle.player_core.specs.State.{BenchState, Lasting, players_of}
 use Rattle.result_lines.specs.declared.line.MatchLine.{MatchLine}
 use Rattle.report_names.specs.Names.{place_in}
-use Rattle.lab_report.specs.declared.report.Head.{Head}
-use Rattle.lab_report.specs.declared.report.Report.{Report}
+use Rattle.report_rules.specs.declared.report.Head.{Head}
+use Rattle.report_rules.specs.declared.report.Report.{Report}
 use Rattle.sheet_rules.specs.Entrants.{Entrant, automaton_of_entrant}
 use Rattle.sheet_rules.specs.RightLine.{IsRightLine}
 use Rattle.round_robin.specs.Asked.{IsAsked, bench_turns}

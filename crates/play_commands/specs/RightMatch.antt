@@ -2,11 +2,11 @@
 use Rattle.std.specs.Prelude.{◌≡◌, ℕ, List, Some}
 use Rattle.player_core.specs.State.{BenchState, Lasting}
 use Rattle.result_lines.specs.declared.line.MatchLine.{MatchLine}
-use Rattle.lab_report.specs.declared.report.Body.TheVariants as bodies
-use Rattle.lab_report.specs.declared.report.Report.{Report}
+use Rattle.report_rules.specs.declared.report.Body.TheVariants as bodies
+use Rattle.report_rules.specs.declared.report.Report.{Report}
 use Rattle.report_names.specs.Names.{name_at}
-use Rattle.lab_report.specs.Text.{report_text}
-use Rattle.lab_report.specs.Valid.{IsValid}
+use Rattle.report_rules.specs.Text.{report_text}
+use Rattle.report_rules.specs.Valid.{IsValid}
 use Rattle.job_tables.specs.declared.jobs.MatchJob.{MatchJob}
 use Rattle.lab_file.specs.Lab.{LabData, entry_at}
 use Rattle.play_commands.specs.RightLine.{IsOfLab, IsRightBetween, IsAskedBetween}

@@ -10,11 +10,11 @@ use Rattle.round_robin.specs.Contest.{entrant_strategies}
 use Rattle.round_robin.specs.Entries.{IsRightEntry}
 use Rattle.result_lines.specs.declared.tables.EntryLine.{EntryLine}
 use Rattle.round_robin.specs.Truth.{true_totals}
-use Rattle.lab_report.specs.declared.report.Body.TheVariants as bodies
-use Rattle.lab_report.specs.declared.report.Report.{Report}
+use Rattle.report_rules.specs.declared.report.Body.TheVariants as bodies
+use Rattle.report_rules.specs.declared.report.Report.{Report}
 use Rattle.report_names.specs.Names.{name_at}
-use Rattle.lab_report.specs.Text.{report_text}
-use Rattle.lab_report.specs.Valid.{IsValid}
+use Rattle.report_rules.specs.Text.{report_text}
+use Rattle.report_rules.specs.Valid.{IsValid}
 use Rattle.job_tables.specs.declared.tournament.TournamentJob.{TournamentJob}
 use Rattle.lab_file.specs.Lab.{LabData, entry_at}
 use Rattle.job_tables.specs.Tournament.{tournament_pairs}

@@ -6,10 +6,10 @@ use Rattle.std.proofs.lemmas.List.Elements.{All-head, All-map, All-nil, All-push
 use Rattle.history_model.specs.Game.{Payoffs}
 use Rattle.history_model.specs.Name.{IsName}
 use Rattle.history_model.specs.Noise.{FlipRate, IsFlipRate, no_noise}
-use Rattle.lab_report.specs.declared.report.Body.TheVariants as bodies
-use Rattle.lab_report.specs.declared.report.Report.{Report}
+use Rattle.report_rules.specs.declared.report.Body.TheVariants as bodies
+use Rattle.report_rules.specs.declared.report.Report.{Report}
 use Rattle.report_names.specs.Names.{NamesGrow, name_at, with_name, with_names, place_in}
-use Rattle.lab_report.specs.Valid.{IsFirstOf, IsTotal, IsValid, drill_game, first_names}
+use Rattle.report_rules.specs.Valid.{IsFirstOf, IsTotal, IsValid, drill_game, first_names}
 use Rattle.report_making.specs.Made.{ShowsFirst, drill_report_of, first_order, moved_first, moved_line}
 use Rattle.report_making.proofs.Gathering.{holds_on}
 

@@ -22,12 +22,12 @@ use Rattle.result_lines.specs.declared.tables.EntryLine.{EntryLine}
 use Rattle.result_lines.specs.declared.tables.Totals.{Totals}
 use Rattle.result_lines.specs.Ranks.{rank_of, ranks_of}
 use Rattle.result_lines.specs.Totals.{own_score, total_of, totals_of, wins_match, leaves_undecided, entry_of, entries_of}
-use Rattle.lab_report.specs.declared.report.Body.TheVariants as bodies
-use Rattle.lab_report.specs.declared.report.Head.{Head}
-use Rattle.lab_report.specs.declared.report.Report.{Report}
+use Rattle.report_rules.specs.declared.report.Body.TheVariants as bodies
+use Rattle.report_rules.specs.declared.report.Head.{Head}
+use Rattle.report_rules.specs.declared.report.Report.{Report}
 use Rattle.report_names.specs.Names.{NamesGrow, name_at, with_name, with_names, place_in}
-use Rattle.lab_report.specs.Text.{shown_match}
-use Rattle.lab_report.specs.Valid.{paid, IsCounted, IsCountedIn, IsHead, IsMatchOf, IsOnceEach, IsTable, IsValid, match_names, own_count}
+use Rattle.report_rules.specs.Text.{shown_match}
+use Rattle.report_rules.specs.Valid.{paid, IsCounted, IsCountedIn, IsHead, IsMatchOf, IsOnceEach, IsTable, IsValid, match_names, own_count}
 use Rattle.report_making.specs.Made.{AreResults, ShowsNames, moved_match, moved_matches, names_in_order, noise_of, noises_in_order, places_in, tournament_report_of}
 use Rattle.report_making.proofs.Gathering.{holds_on, names_then, one_longer}
 

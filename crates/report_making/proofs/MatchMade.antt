@@ -8,10 +8,10 @@ use Rattle.history_model.specs.Game.{IsGame}
 use Rattle.history_model.specs.Name.{IsName}
 use Rattle.history_model.specs.Noise.{FlipRate, IsFlipRate}
 use Rattle.result_lines.specs.declared.line.MatchLine.{MatchLine}
-use Rattle.lab_report.specs.declared.report.Body.TheVariants as bodies
-use Rattle.lab_report.specs.declared.report.Head.{Head}
-use Rattle.lab_report.specs.declared.report.Report.{Report}
-use Rattle.lab_report.specs.Valid.{IsHead, IsShowable, IsValid, own_count}
+use Rattle.report_rules.specs.declared.report.Body.TheVariants as bodies
+use Rattle.report_rules.specs.declared.report.Head.{Head}
+use Rattle.report_rules.specs.declared.report.Report.{Report}
+use Rattle.report_rules.specs.Valid.{IsHead, IsShowable, IsValid, own_count}
 use Rattle.report_making.specs.Made.{names_of_pair, noises_of_pair}
 use Rattle.report_making.proofs.MadeLaws.{counts_kept}
 

@@ -4,12 +4,12 @@ use Rattle.history_model.specs.Noise.{FlipRate, no_noise}
 use Rattle.result_lines.specs.declared.line.MatchLine.{MatchLine}
 use Rattle.result_lines.specs.declared.tables.Totals.{Totals}
 use Rattle.result_lines.specs.Totals.{entries_of}
-use Rattle.lab_report.specs.declared.report.Body.TheVariants as bodies
-use Rattle.lab_report.specs.declared.report.Head.{Head}
-use Rattle.lab_report.specs.declared.report.Report.{Report}
+use Rattle.report_rules.specs.declared.report.Body.TheVariants as bodies
+use Rattle.report_rules.specs.declared.report.Head.{Head}
+use Rattle.report_rules.specs.declared.report.Report.{Report}
 use Rattle.report_names.specs.Names.{name_at, place_in, with_names}
-use Rattle.lab_report.specs.Text.{shown_match}
-use Rattle.lab_report.specs.Valid.{IsMatchOf, drill_game, first_names, match_names}
+use Rattle.report_rules.specs.Text.{shown_match}
+use Rattle.report_rules.specs.Valid.{IsMatchOf, drill_game, first_names, match_names}
 
 -- the names of two players; one where it is a match of an entry with itself
 abbrev pub names_of_pair : List ℕ → List ℕ → List (List ℕ)

@@ -1,11 +1,11 @@
 //! Makes the reports of drills.
 ghost use Rattle.std.specs.Prelude.{◌≡◌, ◌<◌, ◌≤◌, ◌-◌, ◌^◌, [], All, length, IfOk};
 ghost use Rattle.history_model.specs.Name.{IsName};
-ghost use Rattle.lab_report.specs.Valid.{IsFirstOf, IsTotal, IsValid, first_names};
+ghost use Rattle.report_rules.specs.Valid.{IsFirstOf, IsTotal, IsValid, first_names};
 ghost use Rattle.report_making.specs.Made.{ShowsFirst, drill_report_of, first_order, moved_first, moved_line};
 
 use history_model::{Name, NoMemory};
-use lab_report::{
+use report_rules::{
     Body, Leaders, Names, Noises, Report, drill_game, names_grow, no_noise, place_in,
 };
 use std::alloc::Global;

@@ -1,10 +1,10 @@
 //! Makes the reports of matches.
 ghost use Rattle.std.specs.Prelude.{◌≡◌, IfOk, bytes_eq};
-ghost use Rattle.lab_report.specs.Valid.{IsHead, IsShowable, IsValid};
+ghost use Rattle.report_rules.specs.Valid.{IsHead, IsShowable, IsValid};
 ghost use Rattle.report_making.specs.Made.{match_report_of, names_of_pair, noises_of_pair};
 
 use history_model::{Name, NoMemory, Noise};
-use lab_report::{Body, Head, Names, Noises, Report};
+use report_rules::{Body, Head, Names, Noises, Report};
 use result_lines::MatchLine;
 use std::alloc::Global;
 

@@ -4,11 +4,11 @@ ghost use Rattle.std.specs.List.{AllPairs};
 ghost use Rattle.history_model.specs.Name.{IsName};
 ghost use Rattle.history_model.specs.Noise.{IsFlipRate};
 ghost use Rattle.report_names.specs.Names.{place_in, with_names};
-ghost use Rattle.lab_report.specs.Valid.{IsHead, IsValid, match_names};
+ghost use Rattle.report_rules.specs.Valid.{IsHead, IsValid, match_names};
 ghost use Rattle.report_making.specs.Made.{AreResults, ShowsNames, moved_match, moved_matches, names_in_order, noise_of, noises_in_order, places_in, tournament_report_of};
 
 use history_model::{Name, NoMemory, Noise};
-use lab_report::{Body, Head, Names, Noises, Places, Report, names_grow, place_in};
+use report_rules::{Body, Head, Names, Noises, Places, Report, names_grow, place_in};
 use result_lines::{EntryLine, EntryLines, MatchLine, MatchLines, Totals};
 use std::alloc::Global;
 

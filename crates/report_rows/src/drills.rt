@@ -1,6 +1,6 @@
 //! Reports of drills against texts that were worked out by hand.
 ghost use Rattle.std.specs.Prelude.{IfOk};
-ghost use Rattle.lab_report.specs.Valid.{IsValid};
+ghost use Rattle.report_rules.specs.Valid.{IsValid};
 
 use crate::pieces::check_pieces;
 use crate::shared::{changed, check_text, read, refused_line};

@@ -1,8 +1,7 @@
 //! Texts in pieces.
-ghost use Rattle.lab_report.specs.Valid.{IsValid};
+ghost use Rattle.report_rules.specs.Valid.{IsValid};
 
-use lab_report::Report;
-use report_writing::Pieces;
+use lab_report::{Pieces, Report};
 use std::alloc::Global;
 use std::test::Fail;
 

@@ -1,9 +1,8 @@
 //! What the tests of texts share.
 ghost use Rattle.std.specs.Prelude.{IfOk};
-ghost use Rattle.lab_report.specs.Valid.{IsValid};
+ghost use Rattle.report_rules.specs.Valid.{IsValid};
 
-use lab_report::{Report, ReportError, read_report};
-use report_writing::write_report;
+use lab_report::{Report, ReportError, read_report, write_report};
 use std::alloc::{AllocError, Global};
 use std::test::Fail;
 

@@ -1,7 +1,7 @@
 //! The report of a tournament against its text, which was worked out by hand.
 ghost use Rattle.std.specs.Prelude.{◌≢◌, IfOk};
 ghost use Rattle.std.specs.List.{AllPairs};
-ghost use Rattle.lab_report.specs.Valid.{IsValid};
+ghost use Rattle.report_rules.specs.Valid.{IsValid};
 ghost use Rattle.report_making.specs.Made.{AreResults};
 
 use crate::shared::{changed, check_text};

@@ -1,6 +1,6 @@
 use Rattle.std.proofs.Common.{ℕ, ◌≤◌, length}
-use Rattle.report_writing.specs.Pieces.{to_come}
-use Rattle.lab_report.specs.Text.{report_text}
+use Rattle.lab_report.specs.Pieces.{to_come}
+use Rattle.report_rules.specs.Text.{report_text}
 use Rattle.axlab_core.proofs.SentUpTo.{IsSentUpTo}
 use Rattle.axlab_core.proofs.sending.send_report.Given as goal
 

@@ -1,7 +1,7 @@
 use Rattle.std.proofs.Common.{ap, subst, sym, ◌∙◌, length, rules, arith, FitsSigned}
 use Rattle.std.specs.Int.{w128}
 use Rattle.std.proofs.lemmas.Int.{to_z-of_z}
-use Rattle.lab_report.specs.Valid.{IsTotal}
+use Rattle.report_rules.specs.Valid.{IsTotal}
 use Rattle.play_commands.proofs.DrillReports.{asked_if, first_few, machines_named, right_drill_if, sum_is_total, told_entries}
 use Rattle.play_commands.proofs.Sparing.{may_drill, nobody}
 use Rattle.play_commands.proofs.drill_job.drill.Goals as goal

@@ -2,7 +2,7 @@ use Rattle.std.proofs.Common.{◌≡◌, ◌≤◌, [], length, drop, take}
 use Rattle.std.specs.List.{All}
 use Rattle.history_model.specs.Name.{IsName}
 use Rattle.report_names.specs.Names.{with_names}
-use Rattle.lab_report.specs.Valid.{first_names}
+use Rattle.report_rules.specs.Valid.{first_names}
 use Rattle.report_making.proofs.drill.first_order.Given as goal
 
 abbrev pub invariant-loop-line : goal.invariant-loop-line

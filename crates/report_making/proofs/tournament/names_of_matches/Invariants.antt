@@ -1,6 +1,6 @@
 use Rattle.std.proofs.Common.{◌≡◌, ◌*◌, ◌≤◌, [], length, drop}
 use Rattle.report_names.specs.Names.{with_names}
-use Rattle.lab_report.specs.Valid.{match_names}
+use Rattle.report_rules.specs.Valid.{match_names}
 use Rattle.report_making.proofs.tournament.names_of_matches.Given as goal
 
 abbrev pub invariant-loop-line : goal.invariant-loop-line

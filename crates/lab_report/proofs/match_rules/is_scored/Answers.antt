@@ -1,8 +1,0 @@
-use Rattle.lab_report.proofs.Ranges.{match_parts}
-use Rattle.lab_report.proofs.match_rules.is_scored.Goals as goal
-
-pub pays-requires-clause-turns : goal.pays-requires-clause-turns
-pays-requires-clause-turns c = (match_parts c.args.found.now c.requires.line).few_turns
-
-pub pays-requires-clause-counts : goal.pays-requires-clause-counts
-pays-requires-clause-counts c = (match_parts c.args.found.now c.requires.line).counts
