@@ -116,7 +116,8 @@ fn read_lines(alloc: Global, bytes: &[u8]) -> Result<Report, ReportError>
     }
 }
 
-/// The valid report that the bytes are the text of. The time is linear in their number.
+/// The valid report that the bytes are the text of. The time is linear in their number, and grows with the
+/// square of the number of lines `own`, each of which is compared with those before it.
 ///
 /// # Errors
 ///
