@@ -1,0 +1,10 @@
+pub mod Pigeon
+pub mod Leaving
+pub mod Walking
+pub mod Parts
+pub mod Tables
+pub mod Ratios
+pub mod Heights
+pub mod Turning
+pub mod Lassos
+pub mod Answering

@@ -1,0 +1,4 @@
+pub mod Fitness
+pub mod Fixation
+pub mod Moran
+pub mod Ranges

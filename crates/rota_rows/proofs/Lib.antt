@@ -1,0 +1,4 @@
+pub mod FieldLaws
+pub mod GoingOn
+pub mod InRange
+pub mod LineLaws

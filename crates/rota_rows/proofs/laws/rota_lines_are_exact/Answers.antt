@@ -1,0 +1,5 @@
+use Rattle.rota_rows.proofs.LineLaws.{exact}
+use Rattle.rota_rows.proofs.laws.rota_lines_are_exact.Goals as goal
+
+pub returns : goal.returns
+returns c = exact (record { cuts = c.cuts_are_exact.ensures; numbers = c.numbers_are_exact.ensures; points = c.signed_points_are_exact.ensures })

@@ -1,0 +1,4 @@
+mod Operations
+mod PowerLemmas
+pub mod RatioLemmas
+pub mod SpanLemmas

@@ -1,0 +1,10 @@
+pub mod Signed
+pub mod Sums
+pub mod Points
+pub mod Uppers
+pub mod Lowers
+pub mod Offsets
+pub mod Choosing
+pub mod Scores
+pub mod Gaps
+pub mod Circling
